@@ -1,0 +1,104 @@
+-- A journal kept as headers and one list of lines: how it grows, and how it is read.
+use Rattle.std.proofs.Common.{◌≡◌, ℕ, zero, suc, ◌+◌, ◌<◌, ◌≤◌, List, [], ◌∷◌, ◌++◌, Option, Some, length, take, drop, refl, sym, ap, subst, arith, ◌∙◌}
+use Rattle.std.specs.Prelude.{slice_get, flat_map}
+use Rattle.std.proofs.lemmas.List.{length-drop, take-append-le, drop-append-le, take-append-drop}
+use Rattle.std.proofs.lemmas.List.Sums.{sum_by-cons}
+use Rattle.std.proofs.lemmas.Grind.{common_steps, flat_map-append}
+use Rattle.rt_base.specs.declared.codes.Event.{Event}
+use Rattle.rt_plain.specs.declared.line.Line.{Line}
+use Rattle.rt_plain.specs.declared.entry.Entry.{Entry}
+use Rattle.rt_plain.specs.Runs.{line_count}
+use Rattle.rt_plain.specs.Texts.{printed_by, console_of}
+use Rattle.journal.specs.Seen.{IsEntryAt, lines_of}
+use Rattle.journal.specs.declared.header.Header.{Header}
+use Rattle.journal.specs.Headers.{entries_of, lines_in, StandFrom}
+
+-- no lines where their number is 0
+nothing : (lines : List Line) → 0 ≡ length lines → lines ≡ []
+nothing [] h = refl
+nothing (x ∷ lines) h = absurd (omega arith)
+
+-- as many lines as there are
+take_all : (lines : List Line) (n : ℕ) → n ≡ length lines → take n lines ≡ lines
+take_all lines n h = grind (arith, common_steps)
+
+-- one header more with its lines is one entry more
+pub entries_of-push : (headers : List Header) (h : Header) (lines new : List Line) → lines_in headers ≡ length lines → h.count ≡ length new → entries_of (headers ++ h ∷ []) (lines ++ new) ≡ entries_of headers lines ++ (record { event = h.event; tick = h.tick; lines = new }) ∷ []
+entries_of-push [] h lines new total count =
+    rw (nothing lines total, take_all new h.count count) refl
+entries_of-push (x ∷ headers) h lines new total count =
+    let sum : lines_in (x ∷ headers) ≡ x.count + lines_in headers = sum_by-cons (λ (h : Header). h.count) x headers in
+    let front : x.count ≤ length lines = omega arith in
+    let cut : take x.count (lines ++ new) ≡ take x.count lines = take-append-le x.count lines new front in
+    let rest : drop x.count (lines ++ new) ≡ drop x.count lines ++ new = drop-append-le x.count lines new front in
+    rw (cut, rest, entries_of-push headers h (drop x.count lines) new (omega (arith, length-drop x.count lines)) count) refl
+
+-- an entry for each header
+pub length-entries_of : (headers : List Header) (lines : List Line) → length (entries_of headers lines) ≡ length headers
+length-entries_of [] lines = refl
+length-entries_of (h ∷ headers) lines = ap suc (length-entries_of headers (drop h.count lines))
+
+-- the entries have all lines
+pub line_count-entries_of : (headers : List Header) (lines : List Line) → lines_in headers ≡ length lines → line_count (entries_of headers lines) ≡ length lines
+line_count-entries_of [] lines total = total
+line_count-entries_of (h ∷ headers) lines total =
+    let sum : lines_in (h ∷ headers) ≡ h.count + lines_in headers = sum_by-cons (λ (h : Header). h.count) h headers in
+    let rest : line_count (entries_of headers (drop h.count lines)) ≡ length (drop h.count lines) = line_count-entries_of headers (drop h.count lines) (omega (arith, length-drop h.count lines)) in
+    let first : length (take h.count lines) ≡ h.count = grind (arith, common_steps) in
+    sum_by-cons (λ (e : Entry). length e.lines) (record { event = h.event; tick = h.tick; lines = take h.count lines }) (entries_of headers (drop h.count lines)) ∙ omega (arith, rest, first, length-drop h.count lines, sum, total)
+
+pub ruleset counts = (length-entries_of, line_count-entries_of)
+
+-- the lines of the entries are all lines
+pub lines_of-entries_of : (headers : List Header) (lines : List Line) → lines_in headers ≡ length lines → lines_of (entries_of headers lines) ≡ lines
+lines_of-entries_of [] lines total = sym (nothing lines total)
+lines_of-entries_of (h ∷ headers) lines total =
+    let sum : lines_in (h ∷ headers) ≡ h.count + lines_in headers = sum_by-cons (λ (h : Header). h.count) h headers in
+    rw (lines_of-entries_of headers (drop h.count lines) (omega (arith, length-drop h.count lines, sum, total))) (take-append-drop h.count lines)
+
+-- what the lines print is the console of the entries
+pub console_of-entries_of : (headers : List Header) (lines : List Line) → lines_in headers ≡ length lines → console_of (entries_of headers lines) ≡ flat_map printed_by lines
+console_of-entries_of [] lines total = sym (ap (flat_map printed_by) (nothing lines total))
+console_of-entries_of (h ∷ headers) lines total =
+    let sum : lines_in (h ∷ headers) ≡ h.count + lines_in headers = sum_by-cons (λ (h : Header). h.count) h headers in
+    rw (console_of-entries_of headers (drop h.count lines) (omega (arith, length-drop h.count lines, sum, total)))
+    (sym (flat_map-append printed_by (take h.count lines) (drop h.count lines)) ∙ ap (flat_map printed_by) (take-append-drop h.count lines))
+
+-- a header more stands behind the lines of those before
+pub StandFrom-push : (place : ℕ) (headers : List Header) (h : Header) → StandFrom place headers → h.first ≡ place + lines_in headers → StandFrom place (headers ++ h ∷ [])
+StandFrom-push place [] h stand first = (first ∙ omega arith, tt)
+StandFrom-push place (x ∷ headers) h stand first =
+    let sum : lines_in (x ∷ headers) ≡ x.count + lines_in headers = sum_by-cons (λ (h : Header). h.count) x headers in
+    (stand.0, StandFrom-push (place + x.count) headers h stand.1 (omega (arith, sum, first)))
+
+-- the entry of a header, whose first line stands behind those of the entries before
+entry-from : (place : ℕ) (headers : List Header) (lines : List Line) (at : ℕ) (h : Header) → lines_in headers ≡ length lines → StandFrom place headers → slice_get headers at ≡ Some h →
+    (e : Entry) × (slice_get (entries_of headers lines) at ≡ Some e) × (h.event ≡ e.event) × (h.tick ≡ e.tick) × (h.first ≡ place + line_count (take at (entries_of headers lines))) × (h.count ≡ length e.lines)
+entry-from place [] lines at h total stand there = absurd cc
+entry-from place (x ∷ headers) lines zero h total stand there =
+    let same : x ≡ h = cc in
+    let sum : lines_in (x ∷ headers) ≡ x.count + lines_in headers = sum_by-cons (λ (h : Header). h.count) x headers in
+    let front : length (take x.count lines) ≡ x.count = grind (arith, common_steps) in
+    subst (λ (y : Header). (e : Entry) × (slice_get (entries_of (x ∷ headers) lines) 0 ≡ Some e) × (y.event ≡ e.event) × (y.tick ≡ e.tick) × (y.first ≡ place + 0) × (y.count ≡ length e.lines)) same
+    (record { event = x.event; tick = x.tick; lines = take x.count lines }, refl, refl, refl, stand.0 ∙ omega arith, sym front)
+entry-from place (x ∷ headers) lines (suc at) h total stand there =
+    let sum : lines_in (x ∷ headers) ≡ x.count + lines_in headers = sum_by-cons (λ (h : Header). h.count) x headers in
+    let front : length (take x.count lines) ≡ x.count = grind (arith, common_steps) in
+    let e : Entry = record { event = x.event; tick = x.tick; lines = take x.count lines } in
+    let found = entry-from (place + x.count) headers (drop x.count lines) at h (omega (arith, length-drop x.count lines, sum, total)) stand.1 there in
+    let more : line_count (e ∷ take at (entries_of headers (drop x.count lines))) ≡ length (take x.count lines) + line_count (take at (entries_of headers (drop x.count lines))) = sum_by-cons (λ (e : Entry). length e.lines) e (take at (entries_of headers (drop x.count lines))) in
+    (found.0, found.1, found.2, found.3, omega (arith, found.4, more, front), found.5)
+
+-- the entry of a header
+pub entry-at : (headers : List Header) (lines : List Line) (at : ℕ) (h : Header) → lines_in headers ≡ length lines → StandFrom 0 headers → slice_get headers at ≡ Some h → IsEntryAt (entries_of headers lines) at h.event h.tick h.first h.count
+entry-at headers lines at h total stand there =
+    let found = entry-from 0 headers lines at h total stand there in
+    record { entry = found.0; there = found.1; event_is = found.2; tick_is = found.3; first_is = omega (arith, found.4); count_is = found.5 }
+
+-- the lines of a header more
+pub lines_in-push : (headers : List Header) (h : Header) → lines_in (headers ++ h ∷ []) ≡ lines_in headers + h.count
+lines_in-push [] h = sum_by-cons (λ (h : Header). h.count) h [] ∙ omega arith
+lines_in-push (x ∷ headers) h =
+    let sum : lines_in (x ∷ headers) ≡ x.count + lines_in headers = sum_by-cons (λ (h : Header). h.count) x headers in
+    let more : lines_in (x ∷ (headers ++ h ∷ [])) ≡ x.count + lines_in (headers ++ h ∷ []) = sum_by-cons (λ (h : Header). h.count) x (headers ++ h ∷ []) in
+    more ∙ omega (arith, sum, lines_in-push headers h)

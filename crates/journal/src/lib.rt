@@ -1,0 +1,14 @@
+//! What a run leaves behind: its journal, and the texts that are written of it.
+#![tactic(auto)]
+
+mod consoles;
+mod entries;
+mod header;
+#[cfg(test)]
+mod tests;
+mod traces;
+mod writing;
+
+pub use consoles::console;
+pub use entries::Journal;
+pub use traces::text;

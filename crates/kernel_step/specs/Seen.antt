@@ -1,0 +1,44 @@
+-- What contracts see of a machine.
+use Rattle.std.specs.Prelude.{ℕ, Bool, true, false, Option, Some, None, length, is_some, not, ◌||◌, if◌then◌else◌, nat_lt}
+use Rattle.rt_base.specs.declared.codes.Halt.{Halt}
+use Rattle.rt_base.specs.declared.codes.Event.{Event}
+use Rattle.rt_plain.specs.PlainBoard.{PlainBoard}
+use Rattle.rt_plain.specs.Sleeps.{Did as Happened, Made, Same as Nothing, Halted as Ended}
+use Rattle.rt_plain.specs.Steps.{happens}
+use Rattle.rt_plain.specs.Runs.{Course, is_over, line_count}
+use Rattle.kernel_step.specs.declared.did.Did.{Did}
+use Rattle.kernel_step.specs.declared.did.Did.TheVariants.{Entry as Entered, Same as Stayed, Halted}
+
+-- the board, what has happened, and how many lines fit besides
+pub record MachineSeen : Type 0 where
+  pub board : PlainBoard
+  pub course : Course
+  pub spare : ℕ
+
+-- the lines that fit, none where no entry does
+abbrev pub spare_of : ℕ → ℕ → ℕ
+spare_of entries lines = if nat_lt 0 entries then lines else 0
+
+-- what the code calls what an event did
+abbrev pub did_of : Happened → Did
+did_of (Made s lines) = Entered
+did_of Nothing = Stayed
+did_of (Ended h) = Halted h
+
+-- the same, where it may have halted before
+abbrev pub did_in : Option Halt → Happened → Did
+did_in None answer = did_of answer
+did_in (Some h) answer = Halted h
+
+-- what an event of a machine answers
+abbrev pub did_by : PlainBoard → Course → Event → Did
+did_by b c e = did_in c.halt (happens b c.state e)
+
+-- an entry's tick: that before a step, and that after a tick
+abbrev pub picked_tick : Event → ℕ → ℕ → ℕ
+picked_tick (Event.Step core) before now = before
+picked_tick Event.Tick before now = now
+
+-- the numbers of a machine that hasn't halted and meets a limit
+abbrev pub limit_of : PlainBoard → Course → Option (ℕ × ℕ)
+limit_of b c = if is_some c.halt || not (is_over b c.journal) then None else Some (length c.journal, line_count c.journal)

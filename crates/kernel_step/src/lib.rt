@@ -1,0 +1,15 @@
+//! The machine: steps and ticks of a board, the journal of what they did, and the run by the board's schedule.
+#![tactic(auto)]
+
+mod built;
+mod did;
+mod kernel;
+pub mod laws;
+mod machine;
+mod row;
+mod runner;
+
+pub use built::is_built;
+pub use did::Did;
+pub use machine::{Machine, StartFault};
+pub use runner::{RunFault, run};

@@ -1,0 +1,256 @@
+ghost use Rattle.std.specs.Prelude.{◌≡◌, ◌↔◌, ◌+◌, ◌<◌, ◌≤◌, ◌^◌, [], IfOk, OnOk, OnErr, IsErrOf, None, false, true, length};
+ghost use Rattle.rt_plain.specs.Runs.{IsReached, opened, after, room, is_event_of, line_count};
+ghost use Rattle.rt_plain.specs.Runs.{is_over};
+ghost use Rattle.rt_plain.specs.Schedules.{is_sleep_of, round_count, is_stopped};
+ghost use Rattle.rt_plain.specs.Steps.{happens};
+ghost use Rattle.kernel_step.specs.Built.{IsBuilt, is_built};
+ghost use Rattle.kernel_step.specs.Seen.{did_by, limit_of, picked_tick};
+ghost use Rattle.kernel_step.specs.declared.machine.StartFault.TheVariants.{Memory};
+
+use crate::row::Kernel;
+use crate::{Did, is_built};
+use journal::Journal;
+use rt_base::{Event, Halt, Steps};
+use rt_plain::{Board, Lines};
+use std::alloc::{AllocError, Global};
+use std::marker::Model;
+use std::sync::ledger::Ledger;
+
+/// Why there is no machine for a board.
+#[derive(Clone, Copy, Debug, PartialEq, Eq)]
+pub enum StartFault {
+    /// The board has something that isn't built yet.
+    Later,
+    /// There was no memory.
+    Memory,
+}
+
+impl From<AllocError> for StartFault {
+    ghost from_gives = { λ _ fault. fault ≡ Memory };
+
+    fn from(_: AllocError) -> Self {
+        StartFault::Memory
+    }
+}
+
+/// A board on its way: what it is, what has happened, and how it has halted. Contracts see the board, the course
+/// (state, journal, halt) and for how many lines there is room. Its state is always that of the run of its journal.
+/// This project's own.
+#[derive(Drop)]
+pub struct Machine {
+    board: Board,
+    kernel: Kernel,
+    journal: Journal,
+    halt: Option<Halt>,
+    lines: Lines,
+}
+
+impl Model for Machine {
+    ghost use Rattle.kernel_step.specs.Seen.{MachineSeen, spare_of};
+
+    ghost Value = { MachineSeen };
+
+    ghost use Rattle.kernel_step.specs.Inside.{IsMachine};
+    ghost use Rattle.kernel_step.specs.Whole.{state_of};
+
+    ghost view = { λ m. record {
+      board = m.board;
+      course = record { state = state_of m.kernel; journal = m.journal.entries; halt = m.halt };
+      spare = spare_of m.journal.spare_entries m.journal.spare_lines;
+    } };
+
+    ghost invariant = { IsMachine };
+}
+
+// What the test of a built board says.
+#[tactic(auto, using(crate::proofs::BuiltLemmas::built_facts))]
+fn facts(board: &Board)
+    requires { is_built board.now ≡ true }
+    ensures { IsBuilt board.now }
+{}
+
+// Room for the lines of any one event.
+#[tactic(auto, using(crate::proofs::OpenLemmas::built_room))]
+fn room_for(board: &Board) -> usize
+    requires { IsBuilt board.now }
+    ensures value { result ≡ room board.now }
+    ensures some { 2 ≤ result }
+{
+    let threads = board.threads.len();
+    (threads + 1) * (2 * threads + 4) + 305
+}
+
+// The tick of an entry: that before a step, and that after a tick.
+fn tick_for(event: &Event, before: u32, now: u32) -> u32
+    ensures { result ≡ picked_tick event.now before now }
+{
+    match event {
+        Event::Step(_) => before,
+        Event::Tick => now,
+    }
+}
+
+impl Machine {
+    /// A machine that stands at the board's opening, with no entries. `Later` comes exactly where the board has
+    /// something that isn't built yet.
+    pub fn open(alloc: Global, board: Board) -> Result<Machine, StartFault>
+        ensures board { IfOk result (λ m. m.board ≡ board) }
+        ensures course { IfOk result (λ m. m.course ≡ opened board) }
+        ensures later { IsErrOf result StartFault.Later ↔ (is_built board ≡ false) }
+    {
+        if !is_built(&board) {
+            return Err(StartFault::Later);
+        }
+        facts(&board);
+        let kernel = Kernel::open(&board);
+        let lines = Lines::new(alloc, room_for(&board))?;
+        Ok(Machine {
+            board,
+            kernel,
+            journal: Journal::new(alloc),
+            halt: None,
+            lines,
+        })
+    }
+
+    /// The most lines that one event adds.
+    pub fn room(&self) -> usize
+        ensures { result ≡ room self.now.board }
+    {
+        room_for(&self.board)
+    }
+
+    /// For how many lines there is room, 0 where no entry has room.
+    pub fn spare(&self) -> usize
+        ensures { result ≡ self.now.spare }
+    {
+        let (entries, lines) = self.journal.spare();
+        if entries > 0 { lines } else { 0 }
+    }
+
+    /// Makes room for the lines of one event, and changes nothing else. A refusal is want of memory, and lowers
+    /// nothing.
+    pub fn reserve(&mut self) -> Result<(), AllocError>
+        ensures course { self.new.course ≡ self.old.course }
+        ensures board { self.new.board ≡ self.old.board }
+        ensures ok { OnOk result (room self.old.board ≤ self.new.spare) }
+        ensures no_less { self.old.spare ≤ self.new.spare }
+    {
+        let room = self.room();
+        self.journal.reserve(1, room)
+    }
+
+    // One event, which makes no sleep so far.
+    pub(crate) fn make<L: Ledger>(&mut self, event: Event, steps: &mut Steps<L>) -> Did
+        requires room { room self.old.board ≤ self.old.spare }
+        requires core { is_event_of self.old.board event ≡ true }
+        ensures course { self.new.course ≡ after self.old.board self.old.course event }
+        ensures board { self.new.board ≡ self.old.board }
+        ensures did { result ≡ did_by self.old.board self.old.course event }
+        ensures lines { line_count self.new.course.journal ≤ line_count self.old.course.journal + room self.old.board }
+        ensures awake { self.old.course.halt ≡ None → is_sleep_of (happens self.old.board self.old.course.state event) ≡ false }
+    {
+        if let Some(halt) = self.halt {
+            return Did::Halted(halt);
+        }
+        let _entries = self.journal.entries();
+        let before = self.kernel.tick();
+        let did = self.kernel.event(&self.board, &event, &mut self.lines);
+        match did {
+            Did::Entry => {
+                let tick = tick_for(&event, before, self.kernel.tick());
+                self.journal.push(event, tick, &mut self.lines);
+                self.halt = self.kernel.halt();
+            }
+            Did::Same => {}
+            Did::Halted(halt) => self.halt = Some(halt),
+        }
+        did
+    }
+
+    /// One event, for whose lines there is room: a step of one of the board's cores, or a tick. `Entry` where it
+    /// made an entry, which stands at the journal's end with at most `room()` lines; `Same` where it changed
+    /// nothing; `Halted` where the machine had halted before, or a step of core 0 found that it has. It takes no
+    /// memory.
+    pub fn event<L: Ledger>(&mut self, event: Event, steps: &mut Steps<L>) -> Did
+        requires room { room self.old.board ≤ self.old.spare }
+        requires core { is_event_of self.old.board event ≡ true }
+        ensures course { self.new.course ≡ after self.old.board self.old.course event }
+        ensures board { self.new.board ≡ self.old.board }
+        ensures did { result ≡ did_by self.old.board self.old.course event }
+        ensures lines { line_count self.new.course.journal ≤ line_count self.old.course.journal + room self.old.board }
+    {
+        self.make(event, steps)
+    }
+
+    /// The board.
+    pub fn board(&self) -> &Board
+        ensures { result.now ≡ self.now.board }
+    {
+        &self.board
+    }
+
+    /// What has happened. The machine's state is that of the run of these entries.
+    pub fn journal(&self) -> &Journal
+        ensures entries { result.now.entries ≡ self.now.course.journal }
+        ensures run { IsReached self.now.board self.now.course }
+    {
+        &self.journal
+    }
+
+    /// How the machine has halted, none where it hasn't.
+    pub fn halt(&self) -> Option<Halt>
+        ensures { result ≡ self.now.course.halt }
+    {
+        self.halt
+    }
+
+    /// The tick of now.
+    pub fn tick(&self) -> u32
+        ensures { result ≡ self.now.course.state.tick }
+    {
+        self.kernel.tick()
+    }
+
+    /// The numbers of entries and lines, where the machine hasn't halted and meets a limit: its entries are the
+    /// board's `entries`, or its lines and `room()` more than 4,000,000.
+    pub fn limit(&self) -> Option<(u32, u32)>
+        ensures { result ≡ limit_of self.now.board self.now.course }
+    {
+        if self.halt.is_some() || !self.is_over() {
+            return None;
+        }
+        Some((self.journal.entries(), self.journal.lines()))
+    }
+
+    // Whether the journal meets a limit of the board.
+    fn is_over(&self) -> bool
+        ensures { result ≡ is_over self.now.board self.now.course.journal }
+    {
+        let lines = self.journal.lines() as u64 + room_for(&self.board) as u64;
+        self.journal.entries() == self.board.entries || lines > 4_000_000
+    }
+
+    // Whether no further event is made: the machine has halted, or meets a limit.
+    pub(crate) fn has_stopped(&self) -> bool
+        ensures { result ≡ is_stopped (is_over self.now.board) self.now.course }
+    {
+        self.halt.is_some() || self.is_over()
+    }
+
+    // How many rounds the next period has.
+    pub(crate) fn pace(&self) -> u8
+        ensures rounds { result ≡ round_count self.now.course.state.run_mode }
+        ensures few { result ≤ 8 }
+    {
+        self.kernel.pace()
+    }
+
+    // No core holds the lock over all cores, and the board is built.
+    pub(crate) fn facts(&self)
+        ensures nest { self.now.course.state.nest ≡ None }
+        ensures built { IsBuilt self.now.board }
+    {
+        self.kernel.free();
+    }
+}

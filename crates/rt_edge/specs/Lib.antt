@@ -1,0 +1,4 @@
+pub mod Counts
+pub mod Contents
+pub mod Seen
+pub mod Shelved

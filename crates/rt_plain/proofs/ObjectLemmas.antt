@@ -1,0 +1,303 @@
+-- Each call on an object keeps what holds of a state, and with them the whole table.
+use Rattle.std.proofs.Common.{◌≡◌, ◌≢◌, ◌+◌, ◌∷◌, [], ◌++◌, ℕ, List, Option, Some, None, Bool, true, false, is_some, cond, length, eqb, nat_lt, nat_le, bytes_eq, refl, ap, ◌∙◌, subst, arith, ltb-true, filter, map, if◌then◌else◌, bit_and, bit_or}
+use Rattle.std.specs.List.{AllByRecursion}
+use Rattle.rt_base.specs.declared.codes.Code.{Code}
+use Rattle.rt_base.specs.declared.codes.Class.{Class}
+use Rattle.rt_base.specs.declared.codes.Sleep.{Sleep}
+use Rattle.rt_base.specs.declared.codes.WaitOrder.{WaitOrder}
+use Rattle.rt_plain.specs.declared.stmt.Call.{Call}
+use Rattle.rt_plain.specs.PlainBoard.{PlainBoard}
+use Rattle.rt_plain.specs.State.{State, Stage, Waiting, InCall, Thread, Timer, OfTimer, Sem, EventObj, Holding, Mailbox, MsgQueue, Device, thread_at, with_thread, no_thread}
+use Rattle.rt_plain.specs.Effects.{each_effect, wake_effect, retry_wake_effect, effect_for, without_alarm, due_of}
+use Rattle.rt_plain.specs.Waiting.{waiters, first_waiter, number_in, takes_sem, takes_mutex, receives_event, sends_mail, receives_mail, sends_message, receives_message}
+use Rattle.rt_plain.specs.Outcome.{By, ByThread, ByTimer, Attempt, First, refusal, with_value, with_text, missing_outcome}
+use Rattle.rt_plain.specs.SemCalls.{find_sem, sem_create, sem_take, sem_release_outcome, sem_release}
+use Rattle.rt_plain.specs.EventCalls.{Want, Wanting, find_event, event_create, event_recv, is_satisfied, flags_wake_effect, wanting_threads, satisfied_waiters, flags_left, event_send, with_event, want_of}
+use Rattle.rt_plain.specs.MutexCalls.{find_mutex, mutex_create, mutex_take_outcome, mutex_take, mutex_release_outcome, mutex_release, mutex_ceiling, with_mutex}
+use Rattle.rt_plain.specs.Priority.{holding_of}
+use Rattle.rt_plain.specs.MailboxCalls.{find_mailbox, with_mailbox, has_mail_room, mail_put_outcome, mb_send, mb_urgent, mb_recv_outcome, mb_recv}
+use Rattle.rt_plain.specs.QueueCalls.{find_queue, with_queue, is_too_long, has_message_room, message_put_outcome, mq_send, mq_urgent, mq_recv_outcome, mq_recv}
+use Rattle.rt_plain.specs.DeleteCall.{deletion_outcome, delete}
+use Rattle.rt_plain.specs.TimerCalls.{find_timer, with_timer, with_timer_armed, timer_start, timer_stop, timer_set}
+use Rattle.rt_plain.specs.DeviceCalls.{find_device, with_device, is_open, dev_open, may_close, dev_close, dev_read, write_effect, dev_write, dev_ctl}
+use Rattle.rt_plain.specs.PowerCalls.{votes_for, pm_request, pm_release}
+use Rattle.rt_plain.specs.Calls.{outcome_of}
+use Rattle.rt_plain.specs.Sound.{is_waiting, is_timed_call}
+use Rattle.rt_plain.proofs.TallyLemmas.{all-weaker, all-filter, all-append, all-map, all-found, same-set, other-set}
+use Rattle.rt_plain.proofs.Invariant.{Frame, Kept, stage_at, IsFineTimer, fine-at, thread-kept, without_alarm-kept, with_alarm-kept}
+use Rattle.rt_plain.proofs.WakeLemmas.{wake-kept, retry_wake-kept, wake-others, IsListed, AllApart, apart-map, waiters-listed, waiters-apart, waiters-wait, first-waits, each-wakes, for-kept, give_back-kept}
+use Rattle.rt_plain.proofs.CallLemmas.{KeptOutcome, IsBy, if-outcome, found-outcome, missing-kept, value-kept, text-kept, wait_or-kept, delay-kept, yield-kept, startup-kept, suspend-kept, resume-kept, kill-kept, set_prio-kept, lock-kept, unlock-kept, sched_lock-kept, sched_unlock-kept}
+
+-- semaphores
+sem_create-kept : (f : Frame) (b : PlainBoard) (s : State) (name : List ℕ) (value : ℕ) (order : WaitOrder) → Kept f s → KeptOutcome f (sem_create b name value order s)
+sem_create-kept f b s name value order kept = if-outcome f (is_some (find_sem s name)) (refusal s Code.Busy) _ (λ is. kept) (λ is. if-outcome f (nat_le b.limits.sem (length s.sems)) (refusal s Code.NoMem) _ (λ full. kept) (λ room. kept))
+
+sem_take-kept : (f : Frame) (s : State) (name : List ℕ) (timeout : Option ℕ) (by : By) → IsBy f s by → Kept f s → KeptOutcome f (sem_take name timeout s by)
+sem_take-kept f s name timeout by is kept = found-outcome f (find_sem s name) (refusal s Code.Inval) _ kept (λ sem found. if-outcome f (nat_lt 0 sem.value) _ _ (λ some. kept) (λ none. wait_or-kept f s by First (Call.SemTake sem.name timeout) timeout Code.Timeout is refl kept))
+
+released-kept : (f : Frame) (s : State) (sem : Sem) (o : Option ℕ) → ((t : ℕ) → o ≡ Some t → is_waiting (thread_at s t).stage ≡ true) → Kept f s → KeptOutcome f (sem_release_outcome sem o s)
+released-kept f s sem None waits kept = if-outcome f (eqb sem.value 65535) (refusal s Code.Full) _ (λ full. kept) (λ room. kept)
+released-kept f s sem (Some t) waits kept = wake-kept f s Code.Ok t (waits t refl) kept
+
+pub sem_release-kept : (f : Frame) (s : State) (name : List ℕ) → Kept f s → KeptOutcome f (sem_release name s)
+sem_release-kept f s name kept = found-outcome f (find_sem s name) (refusal s Code.Inval) _ kept (λ sem found. released-kept f s sem (first_waiter s sem.order (takes_sem name)) (first-waits s sem.order (takes_sem name)) kept)
+
+-- event objects
+event_create-kept : (f : Frame) (b : PlainBoard) (s : State) (name : List ℕ) (order : WaitOrder) → Kept f s → KeptOutcome f (event_create b name order s)
+event_create-kept f b s name order kept = if-outcome f (is_some (find_event s name)) (refusal s Code.Busy) _ (λ is. kept) (λ is. if-outcome f (nat_le b.limits.event (length s.events)) (refusal s Code.NoMem) _ (λ full. kept) (λ room. kept))
+
+event_recv-kept : (f : Frame) (s : State) (name : List ℕ) (want : Want) (timeout : Option ℕ) (by : By) → IsBy f s by → Kept f s → KeptOutcome f (event_recv name want timeout s by)
+event_recv-kept f s name want timeout by is kept = found-outcome f (find_event s name) (refusal s Code.Inval) _ kept (λ event found. if-outcome f (is_satisfied event.flags want) _ _ (λ some. value-kept f (with_event s _) by _ kept) (λ none. wait_or-kept f s by First (Call.EventRecv event.name want.mask want.all want.clear timeout) timeout Code.Timeout is refl kept))
+
+valued-kept : (f : Frame) (flags : ℕ) (w : Wanting) (s : State) → is_waiting (stage_at s.threads w.thread) ≡ true → Kept f s → Kept f (flags_wake_effect flags w s).state
+valued-kept f flags w s waits kept = wake-kept f (with_thread s w.thread row) Code.Ok w.thread (ap is_waiting (same-set (λ (r : Thread). r.stage) s.threads w.thread w.thread row no_thread refl) ∙ waits) (thread-kept f s w.thread row refl (fine-at f s w.thread kept) kept) where
+  row : Thread
+  row = record (thread_at s w.thread) { value = bit_and flags w.want.mask }
+
+valued-others : (flags : ℕ) (w : Wanting) (s : State) (u : ℕ) → u ≢ w.thread → stage_at (flags_wake_effect flags w s).state.threads u ≡ stage_at s.threads u
+valued-others flags w s u apart = wake-others (with_thread s w.thread row) Code.Ok w.thread u apart ∙ ap (λ (r : Thread). r.stage) (other-set s.threads w.thread u row no_thread apart) where
+  row : Thread
+  row = record (thread_at s w.thread) { value = bit_and flags w.want.mask }
+
+apart-filter : {A : Type 0} (key : A → ℕ) (q : A → Bool) (xs : List A) → AllApart key xs → AllApart key (filter q xs)
+apart-filter key q [] all = tt
+apart-filter key q (x ∷ xs) all = by_test (q x) (apart-filter key q xs all.1) where
+  by_test : (c : Bool) → AllApart key (filter q xs) → AllApart key (cond c (x ∷ filter q xs) (filter q xs))
+  by_test true more = (all-filter (λ y. key y ≢ key x) q xs all.0, more)
+  by_test false more = more
+
+event_send-kept : (f : Frame) (s : State) (name : List ℕ) (mask : ℕ) → Kept f s → KeptOutcome f (event_send name mask s)
+event_send-kept f s name mask kept = found-outcome f (find_event s name) (refusal s Code.Inval) _ kept (λ event found. sent event) where
+  sent : (event : EventObj) → Kept f (each_effect (flags_wake_effect (bit_or event.flags mask)) (satisfied_waiters (bit_or event.flags mask) (wanting_threads s event)) (with_event s (record event { flags = flags_left (bit_or event.flags mask) (wanting_threads s event) }))).state
+  sent event =
+      let ts : List ℕ = waiters s event.order (receives_event event.name) in
+      let wants : ℕ → Wanting = λ t. record { thread = t; want = want_of (thread_at s t).stage } in
+      each-wakes f (λ (w : Wanting). w.thread) (flags_wake_effect (bit_or event.flags mask)) (valued-kept f (bit_or event.flags mask)) (valued-others (bit_or event.flags mask)) (satisfied_waiters (bit_or event.flags mask) (wanting_threads s event)) _
+      (all-filter (λ (w : Wanting). is_waiting (stage_at s.threads w.thread) ≡ true) _ (wanting_threads s event) (all-map (λ (w : Wanting). is_waiting (stage_at s.threads w.thread) ≡ true) wants ts (waiters-wait s event.order (receives_event event.name))))
+      (apart-filter (λ (w : Wanting). w.thread) _ (wanting_threads s event) (apart-map (λ (w : Wanting). w.thread) wants ts (waiters-apart s event.order (receives_event event.name))))
+      kept
+
+-- mutexes
+mutex_create-kept : (f : Frame) (b : PlainBoard) (s : State) (name : List ℕ) (ceiling : ℕ) → Kept f s → KeptOutcome f (mutex_create b name ceiling s)
+mutex_create-kept f b s name ceiling kept = if-outcome f (is_some (find_mutex s name)) (refusal s Code.Busy) _ (λ is. kept) (λ is. if-outcome f (nat_le b.limits.mutex (length s.mutexes)) (refusal s Code.NoMem) _ (λ full. kept) (λ room. kept))
+
+taken-kept : (f : Frame) (s : State) (name : List ℕ) (o : Option Holding) (timeout : Option ℕ) (by : By) → IsBy f s by → Kept f s → KeptOutcome f (mutex_take_outcome name o timeout s by)
+taken-kept f s name None timeout (ByThread t core) is kept = kept
+taken-kept f s name None timeout (ByTimer timer) is kept = kept
+taken-kept f s name (Some h) timeout (ByTimer timer) is kept = kept
+taken-kept f s name (Some h) timeout (ByThread t core) is kept = if-outcome f (eqb h.owner t) _ _ (λ own. if-outcome f (eqb h.hold 255) (refusal s Code.Full) _ (λ full. kept) (λ room. kept)) (λ other. wait_or-kept f s (ByThread t core) First (Call.MutexTake name timeout) timeout Code.Timeout is refl kept)
+
+mutex_take-kept : (f : Frame) (s : State) (name : List ℕ) (timeout : Option ℕ) (by : By) → IsBy f s by → Kept f s → KeptOutcome f (mutex_take name timeout s by)
+mutex_take-kept f s name timeout by is kept = found-outcome f (find_mutex s name) (refusal s Code.Inval) _ kept (λ mutex found. taken-kept f s name (holding_of s name) timeout by is kept)
+
+given-kept : (f : Frame) (s : State) (o : Option Holding) (by : By) → Kept f s → KeptOutcome f (mutex_release_outcome o s by)
+given-kept f s None by kept = kept
+given-kept f s (Some h) (ByTimer timer) kept = kept
+given-kept f s (Some h) (ByThread t core) kept = if-outcome f (eqb h.owner t) _ (refusal s Code.Error) (λ own. if-outcome f (nat_lt 1 h.hold) _ _ (λ more. kept) (λ last. give_back-kept f s h.mutex kept)) (λ other. kept)
+
+mutex_release-kept : (f : Frame) (s : State) (name : List ℕ) (by : By) → Kept f s → KeptOutcome f (mutex_release name s by)
+mutex_release-kept f s name by kept = found-outcome f (find_mutex s name) (refusal s Code.Inval) _ kept (λ mutex found. given-kept f s (holding_of s name) by kept)
+
+mutex_ceiling-kept : (f : Frame) (s : State) (name : List ℕ) (ceiling : ℕ) (by : By) → Kept f s → KeptOutcome f (mutex_ceiling name ceiling s by)
+mutex_ceiling-kept f s name ceiling by kept = found-outcome f (find_mutex s name) (refusal s Code.Inval) _ kept (λ mutex found. value-kept f (with_mutex s (record mutex { ceiling = ceiling })) by mutex.ceiling kept)
+
+-- the first of a wait list wakes to make its call again; the object's row has no part in it
+retried-kept : (f : Frame) (s u : State) (order : WaitOrder) (in_list : Call → Bool) → ((t : ℕ) → stage_at u.threads t ≡ stage_at s.threads t) → Kept f u → Kept f (effect_for retry_wake_effect (first_waiter s order in_list) u).state
+retried-kept f s u order in_list same kept = for-kept f retry_wake_effect (first_waiter s order in_list) u (λ t is. retry_wake-kept f u t (ap is_waiting (same t) ∙ first-waits s order in_list t is) kept) kept
+
+-- mailboxes
+mail_put-kept : (f : Frame) (s : State) (mailbox : Mailbox) (words : List ℕ) → Kept f s → KeptOutcome f (mail_put_outcome mailbox words s)
+mail_put-kept f s mailbox words kept = retried-kept f s (with_mailbox s (record mailbox { words = words })) mailbox.order (receives_mail mailbox.name) (λ t. refl) kept
+
+mb_send-kept : (f : Frame) (s : State) (name : List ℕ) (word : ℕ) (timeout : Option ℕ) (by : By) (attempt : Attempt) → IsBy f s by → Kept f s → KeptOutcome f (mb_send name word timeout s by attempt)
+mb_send-kept f s name word timeout by attempt is kept = found-outcome f (find_mailbox s name) (missing_outcome s attempt) _ (missing-kept f s attempt kept) (λ mailbox found. if-outcome f (has_mail_room mailbox) _ _ (λ room. mail_put-kept f s mailbox (mailbox.words ++ word ∷ []) kept) (λ full. wait_or-kept f s by attempt (Call.MbSend mailbox.name word timeout) timeout Code.Full is refl kept))
+
+mb_urgent-kept : (f : Frame) (s : State) (name : List ℕ) (word : ℕ) → Kept f s → KeptOutcome f (mb_urgent name word s)
+mb_urgent-kept f s name word kept = found-outcome f (find_mailbox s name) (missing_outcome s First) _ kept (λ mailbox found. if-outcome f (has_mail_room mailbox) _ (refusal s Code.Full) (λ room. mail_put-kept f s mailbox (word ∷ mailbox.words) kept) (λ full. kept))
+
+value-stages : (s : State) (by : By) (value t : ℕ) → stage_at (with_value s by value).threads t ≡ stage_at s.threads t
+value-stages s (ByThread u core) value t = same-set (λ (r : Thread). r.stage) s.threads u t (record (thread_at s u) { value = value }) no_thread refl
+value-stages s (ByTimer name) value t = refl
+
+text-stages : (s : State) (by : By) (text : List ℕ) (t : ℕ) → stage_at (with_text s by text).threads t ≡ stage_at s.threads t
+text-stages s (ByThread u core) text t = same-set (λ (r : Thread). r.stage) s.threads u t (record (thread_at s u) { text = text }) no_thread refl
+text-stages s (ByTimer name) text t = refl
+
+mail_got-kept : (f : Frame) (s : State) (mailbox : Mailbox) (words : List ℕ) (timeout : Option ℕ) (by : By) (attempt : Attempt) → IsBy f s by → Kept f s → KeptOutcome f (mb_recv_outcome mailbox words timeout s by attempt)
+mail_got-kept f s mailbox [] timeout by attempt is kept = wait_or-kept f s by attempt (Call.MbRecv mailbox.name timeout) timeout Code.Timeout is refl kept
+mail_got-kept f s mailbox (word ∷ words) timeout by attempt is kept = let taken : State = with_mailbox s (record mailbox { words = words }) in retried-kept f s (with_value taken by word) mailbox.order (sends_mail mailbox.name) (value-stages taken by word) (value-kept f taken by word kept)
+
+mb_recv-kept : (f : Frame) (s : State) (name : List ℕ) (timeout : Option ℕ) (by : By) (attempt : Attempt) → IsBy f s by → Kept f s → KeptOutcome f (mb_recv name timeout s by attempt)
+mb_recv-kept f s name timeout by attempt is kept = found-outcome f (find_mailbox s name) (missing_outcome s attempt) _ (missing-kept f s attempt kept) (λ mailbox found. mail_got-kept f s mailbox mailbox.words timeout by attempt is kept)
+
+-- queues
+message_put-kept : (f : Frame) (s : State) (queue : MsgQueue) (messages : List (List ℕ)) → Kept f s → KeptOutcome f (message_put_outcome queue messages s)
+message_put-kept f s queue messages kept = retried-kept f s (with_queue s (record queue { messages = messages })) queue.order (receives_message queue.name) (λ t. refl) kept
+
+mq_send-kept : (f : Frame) (s : State) (name message : List ℕ) (timeout : Option ℕ) (by : By) (attempt : Attempt) → IsBy f s by → Kept f s → KeptOutcome f (mq_send name message timeout s by attempt)
+mq_send-kept f s name message timeout by attempt is kept = found-outcome f (find_queue s name) (missing_outcome s attempt) _ (missing-kept f s attempt kept) (λ queue found.
+    if-outcome f (is_too_long queue message) (refusal s Code.Error) _ (λ long. kept) (λ fits. if-outcome f (has_message_room queue) _ _ (λ room. message_put-kept f s queue (queue.messages ++ message ∷ []) kept) (λ full. wait_or-kept f s by attempt (Call.MqSend queue.name timeout message) timeout Code.Full is refl kept)))
+
+mq_urgent-kept : (f : Frame) (s : State) (name message : List ℕ) → Kept f s → KeptOutcome f (mq_urgent name message s)
+mq_urgent-kept f s name message kept = found-outcome f (find_queue s name) (missing_outcome s First) _ kept (λ queue found.
+    if-outcome f (is_too_long queue message) (refusal s Code.Error) _ (λ long. kept) (λ fits. if-outcome f (has_message_room queue) _ (refusal s Code.Full) (λ room. message_put-kept f s queue (message ∷ queue.messages) kept) (λ full. kept)))
+
+message_got-kept : (f : Frame) (s : State) (queue : MsgQueue) (messages : List (List ℕ)) (timeout : Option ℕ) (by : By) (attempt : Attempt) → IsBy f s by → Kept f s → KeptOutcome f (mq_recv_outcome queue messages timeout s by attempt)
+message_got-kept f s queue [] timeout by attempt is kept = wait_or-kept f s by attempt (Call.MqRecv queue.name timeout) timeout Code.Timeout is refl kept
+message_got-kept f s queue (message ∷ messages) timeout by attempt is kept =
+    let taken : State = with_queue s (record queue { messages = messages }) in
+    let told : State = with_text taken by message in
+    retried-kept f s (with_value told by (length message)) queue.order (sends_message queue.name) (λ t. value-stages told by (length message) t ∙ text-stages taken by message t) (value-kept f told by (length message) (text-kept f taken by message kept))
+
+mq_recv-kept : (f : Frame) (s : State) (name : List ℕ) (timeout : Option ℕ) (by : By) (attempt : Attempt) → IsBy f s by → Kept f s → KeptOutcome f (mq_recv name timeout s by attempt)
+mq_recv-kept f s name timeout by attempt is kept = found-outcome f (find_queue s name) (missing_outcome s attempt) _ (missing-kept f s attempt kept) (λ queue found. message_got-kept f s queue queue.messages timeout by attempt is kept)
+
+-- deletions: all who waited wake
+deletion-kept : (f : Frame) (s : State) (ts : List ℕ) → AllByRecursion (λ t. is_waiting (stage_at s.threads t) ≡ true) ts → AllApart (λ t. t) ts → Kept f s → KeptOutcome f (deletion_outcome s ts)
+deletion-kept f s ts wait apart kept = each-wakes f (λ t. t) (wake_effect Code.Error) (λ t u waits k. wake-kept f u Code.Error t waits k) (λ t u v off. wake-others u Code.Error t v off) ts s wait apart kept
+
+apart-append : (xs ys : List ℕ) → AllApart (λ t. t) xs → AllApart (λ t. t) ys → AllByRecursion (λ x. AllByRecursion (λ y. y ≢ x) ys) xs → AllApart (λ t. t) (xs ++ ys)
+apart-append [] ys left right off = right
+apart-append (x ∷ xs) ys left right off = (all-append (λ y. y ≢ x) xs ys left.0 off.0, apart-append xs ys left.1 right off.1)
+
+listed-call : (p q : Call → Bool) → ((call : Call) → p call ≡ true → q call ≡ true → ⊥) → (stage : Stage) → is_some (number_in p stage) ≡ true → is_some (number_in q stage) ≡ true → ⊥
+listed-call p q never (Waiting (InCall call) number) is also = by_test (p call) (q call) refl refl is also where
+  by_test : (c d : Bool) → p call ≡ c → q call ≡ d → is_some (if c then Some number else None) ≡ true → is_some (if d then Some number else None) ≡ true → ⊥
+  by_test true true here there is also = never call here there
+  by_test false d here there is also = cc
+  by_test true false here there is also = cc
+listed-call p q never _ is also = cc
+
+lists-apart : (s : State) (order : WaitOrder) (p q : Call → Bool) → ((call : Call) → p call ≡ true → q call ≡ true → ⊥) → AllApart (λ t. t) (waiters s order p ++ waiters s order q)
+lists-apart s order p q never = apart-append (waiters s order p) (waiters s order q) (waiters-apart s order p) (waiters-apart s order q)
+    (all-weaker (IsListed p s.threads) (λ x. AllByRecursion (λ y. y ≢ x) (waiters s order q)) (waiters s order p)
+    (λ x here. all-weaker (IsListed q s.threads) (λ y. y ≢ x) (waiters s order q) (λ y there same. listed-call p q never (stage_at s.threads x) here (subst (IsListed q s.threads) same there)) (waiters-listed s order q)) (waiters-listed s order p))
+
+mail-lists : (name : List ℕ) (call : Call) → receives_mail name call ≡ true → sends_mail name call ≡ true → ⊥
+mail-lists name (Call.MbSend box word timeout) is also = cc
+mail-lists name _ is also = cc
+
+message-lists : (name : List ℕ) (call : Call) → receives_message name call ≡ true → sends_message name call ≡ true → ⊥
+message-lists name (Call.MqSend queue timeout message) is also = cc
+message-lists name _ is also = cc
+
+delete-kept : (f : Frame) (s : State) (class : Class) (name : List ℕ) → Kept f s → KeptOutcome f (delete class name s)
+delete-kept f s Class.Sem name kept = found-outcome f (find_sem s name) (refusal s Code.Inval) _ kept (λ sem found. deletion-kept f _ (waiters s sem.order (takes_sem name)) (waiters-wait s sem.order (takes_sem name)) (waiters-apart s sem.order (takes_sem name)) kept)
+delete-kept f s Class.Event name kept = found-outcome f (find_event s name) (refusal s Code.Inval) _ kept (λ event found. deletion-kept f _ (waiters s event.order (receives_event name)) (waiters-wait s event.order (receives_event name)) (waiters-apart s event.order (receives_event name)) kept)
+delete-kept f s Class.Mutex name kept = found-outcome f (find_mutex s name) (refusal s Code.Inval) _ kept (λ mutex found. deletion-kept f _ (waiters s WaitOrder.Prio (takes_mutex name)) (waiters-wait s WaitOrder.Prio (takes_mutex name)) (waiters-apart s WaitOrder.Prio (takes_mutex name)) kept)
+delete-kept f s Class.Mailbox name kept = found-outcome f (find_mailbox s name) (refusal s Code.Inval) _ kept (λ mailbox found. deletion-kept f _ (waiters s mailbox.order (receives_mail name) ++ waiters s mailbox.order (sends_mail name))
+    (all-append _ (waiters s mailbox.order (receives_mail name)) _ (waiters-wait s mailbox.order (receives_mail name)) (waiters-wait s mailbox.order (sends_mail name))) (lists-apart s mailbox.order (receives_mail name) (sends_mail name) (mail-lists name)) kept)
+delete-kept f s Class.MsgQueue name kept = found-outcome f (find_queue s name) (refusal s Code.Inval) _ kept (λ queue found. deletion-kept f _ (waiters s queue.order (receives_message name) ++ waiters s queue.order (sends_message name))
+    (all-append _ (waiters s queue.order (receives_message name)) _ (waiters-wait s queue.order (receives_message name)) (waiters-wait s queue.order (sends_message name))) (lists-apart s queue.order (receives_message name) (sends_message name) (message-lists name)) kept)
+delete-kept f s Class.Thread name kept = kept
+delete-kept f s Class.Timer name kept = kept
+delete-kept f s Class.Device name kept = kept
+
+-- timers
+pub armed-kept : (f : Frame) (s : State) (timer : Timer) → IsFineTimer timer → Kept f s → Kept f (with_timer_armed s timer)
+armed-kept f s timer fine kept = with_alarm-kept f (without_alarm s (OfTimer timer.name)) (OfTimer timer.name) (Some (s.tick + timer.time)) tt f.fits (λ d is. omega (arith, due-is d is, fine.0, kept.tick_is)) (without_alarm-kept f s (OfTimer timer.name) kept) where
+  due-is : (d : ℕ) → Some (s.tick + timer.time) ≡ Some d → s.tick + timer.time ≡ d
+  due-is d is = cc
+
+pub found-timer : (f : Frame) (s : State) (name : List ℕ) (timer : Timer) → find_timer s name ≡ Some timer → Kept f s → IsFineTimer timer
+found-timer f s name timer is kept = all-found IsFineTimer (λ (o : Timer). bytes_eq o.name name) s.timers timer is kept.timers_fine
+
+timer_start-kept : (f : Frame) (s : State) (name : List ℕ) → Kept f s → KeptOutcome f (timer_start name s)
+timer_start-kept f s name kept = found-outcome f (find_timer s name) (refusal s Code.Inval) _ kept (λ timer found. armed-kept f s timer (found-timer f s name timer found kept) kept)
+
+timer_stop-kept : (f : Frame) (s : State) (name : List ℕ) → Kept f s → KeptOutcome f (timer_stop name s)
+timer_stop-kept f s name kept = found-outcome f (find_timer s name) (refusal s Code.Inval) _ kept (λ timer found. if-outcome f (is_some (due_of s (OfTimer name))) _ (refusal s Code.Error) (λ is. without_alarm-kept f s (OfTimer name) kept) (λ is. kept))
+
+replaced-fine : (timers : List Timer) (timer : Timer) → IsFineTimer timer → AllByRecursion IsFineTimer timers → AllByRecursion IsFineTimer (map (λ (o : Timer). if bytes_eq o.name timer.name then timer else o) timers)
+replaced-fine [] timer fine all = tt
+replaced-fine (o ∷ os) timer fine all = (by_test (bytes_eq o.name timer.name), replaced-fine os timer fine all.1) where
+  by_test : (c : Bool) → IsFineTimer (if c then timer else o)
+  by_test true = fine
+  by_test false = all.0
+
+timer-kept : (f : Frame) (s : State) (timer : Timer) → IsFineTimer timer → Kept f s → Kept f (with_timer s timer)
+timer-kept f s timer fine kept = record {
+  tick_is = kept.tick_is;
+  count = kept.count;
+  cores = kept.cores;
+  placed = kept.placed;
+  rows = kept.rows;
+  due_few = kept.due_few;
+  fine = kept.fine;
+  nest_runs = kept.nest_runs;
+  timers_fine = replaced-fine s.timers timer fine kept.timers_fine;
+}
+
+timer_set-kept : (f : Frame) (s : State) (name : List ℕ) (time : ℕ) → nat_lt 0 time ≡ true → Kept f s → KeptOutcome f (timer_set name time s)
+timer_set-kept f s name time timed kept = found-outcome f (find_timer s name) (refusal s Code.Inval) _ kept (λ timer found. timer-kept f s (record timer { time = time }) (ltb-true 0 time timed, (found-timer f s name timer found kept).1) kept)
+
+-- devices
+dev_open-kept : (f : Frame) (s : State) (name : List ℕ) → Kept f s → KeptOutcome f (dev_open name s)
+dev_open-kept f s name kept = found-outcome f (find_device s name) (refusal s Code.Inval) _ kept (λ device found. if-outcome f (eqb device.opened 255) (refusal s Code.Full) _ (λ full. kept) (λ room. kept))
+
+dev_close-kept : (f : Frame) (s : State) (name : List ℕ) → Kept f s → KeptOutcome f (dev_close name s)
+dev_close-kept f s name kept = found-outcome f (find_device s name) (refusal s Code.Inval) _ kept (λ device found. if-outcome f (may_close device) _ (refusal s Code.Error) (λ may. kept) (λ may. kept))
+
+dev_read-kept : (f : Frame) (s : State) (name : List ℕ) (count : ℕ) (by : By) → Kept f s → KeptOutcome f (dev_read name count s by)
+dev_read-kept f s name count by kept = found-outcome f (find_device s name) (refusal s Code.Inval) _ kept (λ device found. if-outcome f (is_open device) _ (refusal s Code.Error) (λ opened. value-kept f (with_text (with_device s _) by _) by _ (text-kept f (with_device s _) by _ kept)) (λ closed. kept))
+
+written-kept : (f : Frame) (s : State) (device : Device) (text : List ℕ) (by : By) → Kept f s → Kept f (write_effect device text s by).state
+written-kept f s device text by kept = by_kind device.console where
+  by_kind : (c : Bool) → Kept f (write_effect (record device { console = c }) text s by).state
+  by_kind true = value-kept f s by _ kept
+  by_kind false = value-kept f (with_device s _) by _ kept
+
+dev_write-kept : (f : Frame) (s : State) (name text : List ℕ) (by : By) → Kept f s → KeptOutcome f (dev_write name text s by)
+dev_write-kept f s name text by kept = found-outcome f (find_device s name) (refusal s Code.Inval) _ kept (λ device found. if-outcome f (is_open device) _ (refusal s Code.Error) (λ opened. written-kept f s device text by kept) (λ closed. kept))
+
+dev_ctl-kept : (f : Frame) (s : State) (name : List ℕ) (rate : ℕ) → Kept f s → KeptOutcome f (dev_ctl name rate s)
+dev_ctl-kept f s name rate kept = found-outcome f (find_device s name) (refusal s Code.Inval) _ kept (λ device found. if-outcome f device.console (refusal s Code.NoSys) _ (λ is. kept) (λ is. kept))
+
+-- votes
+pm_request-kept : (f : Frame) (s : State) (mode : Sleep) → Kept f s → KeptOutcome f (pm_request mode s)
+pm_request-kept f s mode kept = if-outcome f (eqb (votes_for s.votes mode) 255) (refusal s Code.Full) _ (λ full. kept) (λ room. kept)
+
+pm_release-kept : (f : Frame) (s : State) (mode : Sleep) → Kept f s → KeptOutcome f (pm_release mode s)
+pm_release-kept f s mode kept = if-outcome f (eqb (votes_for s.votes mode) 0) (refusal s Code.Error) _ (λ none. kept) (λ some. kept)
+
+-- the whole table
+pub outcome-kept : (f : Frame) (b : PlainBoard) (s : State) (call : Call) (by : By) (attempt : Attempt) → is_timed_call call ≡ true → IsBy f s by → Kept f s → KeptOutcome f (outcome_of b call s by attempt)
+outcome-kept f b s (Call.Delay ticks) by attempt timed is kept = delay-kept f s by ticks is timed kept
+outcome-kept f b s Call.Yield by attempt timed is kept = yield-kept f s by kept
+outcome-kept f b s (Call.Startup name) by attempt timed is kept = startup-kept f s name kept
+outcome-kept f b s (Call.Suspend name) by attempt timed is kept = suspend-kept f s name by is kept
+outcome-kept f b s (Call.Resume name) by attempt timed is kept = resume-kept f s name kept
+outcome-kept f b s (Call.Kill name) by attempt timed is kept = kill-kept f s name kept
+outcome-kept f b s (Call.SetPrio name prio) by attempt timed is kept = set_prio-kept f s name prio kept
+outcome-kept f b s Call.Lock by attempt timed is kept = lock-kept f s by is kept
+outcome-kept f b s Call.Unlock by attempt timed is kept = unlock-kept f s by is kept
+outcome-kept f b s Call.SchedLock by attempt timed is kept = sched_lock-kept f s by kept
+outcome-kept f b s Call.SchedUnlock by attempt timed is kept = sched_unlock-kept f s by kept
+outcome-kept f b s (Call.SemCreate name value order) by attempt timed is kept = sem_create-kept f b s name value order kept
+outcome-kept f b s (Call.SemTake name timeout) by attempt timed is kept = sem_take-kept f s name timeout by is kept
+outcome-kept f b s (Call.SemRelease name) by attempt timed is kept = sem_release-kept f s name kept
+outcome-kept f b s (Call.EventCreate name order) by attempt timed is kept = event_create-kept f b s name order kept
+outcome-kept f b s (Call.EventSend name mask) by attempt timed is kept = event_send-kept f s name mask kept
+outcome-kept f b s (Call.EventRecv name mask all clear timeout) by attempt timed is kept = event_recv-kept f s name (record { mask = mask; all = all; clear = clear }) timeout by is kept
+outcome-kept f b s (Call.MutexCreate name ceiling) by attempt timed is kept = mutex_create-kept f b s name ceiling kept
+outcome-kept f b s (Call.MutexTake name timeout) by attempt timed is kept = mutex_take-kept f s name timeout by is kept
+outcome-kept f b s (Call.MutexRelease name) by attempt timed is kept = mutex_release-kept f s name by kept
+outcome-kept f b s (Call.MutexCeiling name ceiling) by attempt timed is kept = mutex_ceiling-kept f s name ceiling by kept
+outcome-kept f b s (Call.MbSend name word timeout) by attempt timed is kept = mb_send-kept f s name word timeout by attempt is kept
+outcome-kept f b s (Call.MbUrgent name word) by attempt timed is kept = mb_urgent-kept f s name word kept
+outcome-kept f b s (Call.MbRecv name timeout) by attempt timed is kept = mb_recv-kept f s name timeout by attempt is kept
+outcome-kept f b s (Call.MqSend name timeout message) by attempt timed is kept = mq_send-kept f s name message timeout by attempt is kept
+outcome-kept f b s (Call.MqUrgent name message) by attempt timed is kept = mq_urgent-kept f s name message kept
+outcome-kept f b s (Call.MqRecv name timeout) by attempt timed is kept = mq_recv-kept f s name timeout by attempt is kept
+outcome-kept f b s (Call.Delete class name) by attempt timed is kept = delete-kept f s class name kept
+outcome-kept f b s (Call.TimerStart name) by attempt timed is kept = timer_start-kept f s name kept
+outcome-kept f b s (Call.TimerStop name) by attempt timed is kept = timer_stop-kept f s name kept
+outcome-kept f b s (Call.TimerSet name time) by attempt timed is kept = timer_set-kept f s name time timed kept
+outcome-kept f b s (Call.DevOpen name) by attempt timed is kept = dev_open-kept f s name kept
+outcome-kept f b s (Call.DevClose name) by attempt timed is kept = dev_close-kept f s name kept
+outcome-kept f b s (Call.DevRead name count) by attempt timed is kept = dev_read-kept f s name count by kept
+outcome-kept f b s (Call.DevWrite name text) by attempt timed is kept = dev_write-kept f s name text by kept
+outcome-kept f b s (Call.DevCtl name rate) by attempt timed is kept = dev_ctl-kept f s name rate kept
+outcome-kept f b s (Call.PmRequest mode) by attempt timed is kept = pm_request-kept f s mode kept
+outcome-kept f b s (Call.PmRelease mode) by attempt timed is kept = pm_release-kept f s mode kept
+outcome-kept f b s (Call.PmRun mode) by attempt timed is kept = kept

@@ -1,0 +1,5 @@
+-- Lemmas.
+pub mod GrowLemmas
+pub mod TopLemmas
+pub mod SaidLemmas
+pub mod RunLemmas
