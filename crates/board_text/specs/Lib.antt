@@ -1,1 +1,4 @@
-pub mod Reads
+pub mod Gives
+pub mod Drafts
+pub mod Faults
+pub mod Steps

@@ -1,12 +1,23 @@
-//! Boards read from the bytes of a board file.
+//! The text of a board, read into a board or refused at its first bad line.
 #![tactic(auto)]
 
-mod bytes;
-pub mod laws;
+mod draft;
+mod fault;
+mod fields;
 mod lines;
-mod number;
-mod parser;
+mod numbers;
+mod places;
+mod quotes;
+mod reading;
+mod table;
+mod tails;
 #[cfg(test)]
 mod tests;
+mod words;
 
-pub use parser::{BoardFault, parse};
+pub use fault::BoardFault;
+pub use reading::{LONGEST, parse};
+pub use rt_plain::{
+    Arrival, Board, Call, DeviceDef, EventDef, Limits, MailboxDef, MutexDef, QueueDef, Schedule,
+    SemDef, Stmt, ThreadDef, TimerDef, TimerKind, What, Why,
+};

@@ -1,89 +1,119 @@
-//! The lines of statements and threads.
-ghost use Rattle.std.specs.Prelude.{◌≡◌, ℕ, List, Option, IfNone, IfSome};
-ghost use Rattle.std.specs.List.{list_all};
-ghost use Rattle.rt_plain.specs.IsBoard.{is_plain, quoted, IsPlainText, IsSetting, IsStatement, IsThreadLine};
-ghost use Rattle.board_text.specs.Reads.{Reads};
+//! One line, judged by the 14 reasons in their order.
+ghost use Rattle.std.specs.Prelude.{◌≡◌, ◌≤◌, length, drop, map, if◌then◌else◌};
+ghost use Rattle.std.specs.List.{list_any, list_all};
+ghost use Rattle.rt_plain.specs.Splits.{is_printable, is_empty};
+ghost use Rattle.rt_plain.specs.LineTable.{row};
+ghost use Rattle.rt_plain.specs.BoardText.{has_count, of_kind, of_words, judged, is_indented};
+ghost use Rattle.board_text.specs.Gives.{Gives};
+ghost use Rattle.board_text.specs.Drafts.{so_far};
 
-use crate::bytes::{split_once, strip_prefix, strip_suffix, strip_word};
-use crate::number::number;
-use rt_base::{List, Name, Prio, Text};
-use rt_plain::{Call, Stmt, ThreadDef};
+use crate::draft::Draft;
+use crate::fault::Refusal;
+use crate::fields::word_at;
+use crate::places::{is_limit_passed, is_out_of_order, placed};
+use crate::table::{field_count, kind_named, read_said, tail_of};
+use crate::tails::{behind, is_counted};
+use crate::words::words_of;
+use rt_plain::{BoardLine, Kind, Why};
 use std::alloc::Global;
 
-// Whether a text may have the byte.
-fn is_plain(byte: u8) -> bool
-    ensures { result ≡ is_plain byte }
+/// Whether there are as many words as the form says.
+fn has_count(kind: Kind, words: &[&[u8]]) -> bool
+    ensures { result ≡ has_count (row kind) (map (λ w. w.now) words.now) }
 {
-    byte >= 32 && byte <= 126 && byte != b'"' && byte != b'\\'
+    let first = 1 + field_count(kind);
+    first <= words.len() && is_counted(tail_of(kind), behind(words, first))
 }
 
-fn has_plain_bytes(text: &[u8]) -> bool
-    ensures { result ≡ list_all is_plain text.now }
+/// Reasons 5 to 14.
+fn of_kind(alloc: Global, draft: &Draft, words: &[&[u8]], kind: Kind) -> Result<BoardLine, Refusal>
+    requires low { 2 ≤ draft.now.levels }
+    requires high { draft.now.levels ≤ 256 }
+    ensures { Gives result (of_kind (so_far draft.now) (map (λ w. w.now) words.now) kind) }
 {
-    text.iter().all(|b| is_plain(*b))
-}
-
-// The text that a word in quotes spells.
-fn quoted_text(word: &[u8]) -> Option<Text>
-    ensures { Reads (λ text. (word.now ≡ quoted text) × IsPlainText text) result }
-{
-    let text = strip_suffix(strip_prefix(word, b"\"")?, b"\"")?;
-    if !has_plain_bytes(text) {
-        return None;
+    if is_out_of_order(draft, kind)
+        || is_limit_passed(draft.limited, tail_of(kind), word_at(words, 1))
+    {
+        return Err(Refusal::Line(Why::Order));
     }
-    Text::read(text)
-}
-
-/// The statement of a line.
-pub(crate) fn statement(line: &[u8]) -> Option<Stmt>
-    ensures { Reads (IsStatement line.now) result }
-{
-    let words = strip_prefix(line, b"  ")?;
-    if let Some(text) = strip_word(words, b"print") {
-        return Some(Stmt::Print(quoted_text(text)?));
+    if !has_count(kind, words) {
+        return Err(Refusal::Line(Why::Words));
     }
-    if let Some(ticks) = strip_word(words, b"delay") {
-        return Some(Stmt::Do(Call::Delay(number(ticks, 1, 2_147_483_647)?)));
-    }
-    if let Some(place) = strip_word(words, b"goto") {
-        return Some(Stmt::Goto(number(place, 1, 512)? as u16));
-    }
-    if words == b"exit".as_slice() {
-        Some(Stmt::Exit)
-    } else {
-        None
+    let line = read_said(alloc, kind, words, draft.levels)?;
+    match placed(draft, line) {
+        Ok(line) => Ok(line),
+        Err(why) => Err(Refusal::Line(why)),
     }
 }
 
-/// The setting of this word at the front of a text, where it is given, and what follows its line.
-pub(crate) fn setting<'a>(text: &'a [u8], word: &[u8], high: u32) -> Option<(Option<u32>, &'a [u8])>
-    ensures none { IfNone result ((n : Option ℕ) (rest : List ℕ) → IsSetting word.now high text.now rest n → ⊥) }
-    ensures some { IfSome result (λ found. IsSetting word.now high text.now found.1.now found.0) }
+fn are_printable(line: &[u8]) -> bool
+    ensures { result ≡ list_all is_printable line.now }
 {
-    let Some(line) = strip_word(text, word) else {
-        return Some((None, text));
-    };
-    let (digits, rest) = split_once(line, b'\n')?;
-    Some((Some(number(digits, 1, high)?), rest))
+    line.iter().all(|b| *b >= 32 && *b <= 126)
 }
 
-/// The thread of a line, its script still empty.
-pub(crate) fn thread(alloc: Global, line: &[u8]) -> Option<ThreadDef>
-    ensures { Reads (IsThreadLine line.now) result }
+#[tactic(auto, using(rt_plain::proofs::SplitLemmas::any_here, rt_plain::proofs::SplitLemmas::any_more, rt_plain::proofs::SplitLemmas::any_none))]
+fn has_empty(words: &[&[u8]]) -> bool
+    ensures { result ≡ list_any is_empty (map (λ w. w.now) words.now) }
 {
-    let words = strip_word(line, b"thread")?;
-    let (name, words) = split_once(words, b' ')?;
-    let (prio, words) = split_once(words, b' ')?;
-    let (slice, words) = split_once(words, b' ')?;
-    if words != b"any start".as_slice() {
-        return None;
+    for word in words {
+        if word.is_empty() {
+            return true;
+        }
     }
-    Some(ThreadDef {
-        name: Name::read(name)?,
-        prio: Prio(number(prio, 0, 30)? as u8),
-        slice: number(slice, 1, 255)? as u8,
-        core: None,
-        started: true,
-        script: List::new(alloc),
-    })
+    false
+}
+
+fn is_indented(line: &[u8]) -> bool
+    ensures { result ≡ is_indented line.now }
+{
+    match line {
+        [b, c, ..] => *b == b' ' && *c == b' ',
+        _ => false,
+    }
+}
+
+/// What follows the indent.
+fn behind_indent(line: &[u8]) -> &[u8]
+    ensures { result.now ≡ (if is_indented line.now then drop 2 line.now else line.now) }
+{
+    if is_indented(line) { &line[2..] } else { line }
+}
+
+/// Reasons 3 to 14.
+#[tactic(auto, unfolding(rt_plain::specs::BoardText::of_words))]
+fn of_words(
+    alloc: Global,
+    draft: &Draft,
+    indented: bool,
+    words: &[&[u8]],
+) -> Result<BoardLine, Refusal>
+    requires low { 2 ≤ draft.now.levels }
+    requires high { draft.now.levels ≤ 256 }
+    ensures { Gives result (of_words (so_far draft.now) indented (map (λ w. w.now) words.now)) }
+{
+    if has_empty(words) {
+        return Err(Refusal::Line(Why::Space));
+    }
+    match kind_named(indented, word_at(words, 0)) {
+        Some(kind) => of_kind(alloc, draft, words, kind),
+        None => Err(Refusal::Line(Why::Kind)),
+    }
+}
+
+/// What a line says, or the first reason that holds.
+#[tactic(auto, unfolding(rt_plain::specs::BoardText::judged))]
+pub(crate) fn judged(alloc: Global, draft: &Draft, line: &[u8]) -> Result<BoardLine, Refusal>
+    requires low { 2 ≤ draft.now.levels }
+    requires high { draft.now.levels ≤ 256 }
+    ensures { Gives result (judged (so_far draft.now) line.now) }
+{
+    if draft.rank == 0 && line != b"board 1".as_slice() {
+        return Err(Refusal::Line(Why::Head));
+    }
+    if !are_printable(line) {
+        return Err(Refusal::Line(Why::Byte));
+    }
+    let words = words_of(alloc, behind_indent(line))?;
+    of_words(alloc, draft, is_indented(line), &words)
 }

@@ -4,4 +4,3 @@ pub mod BuiltLemmas
 pub mod OpenLemmas
 pub mod MachineLemmas
 pub mod RunnerLemmas
-pub mod ReadLemmas

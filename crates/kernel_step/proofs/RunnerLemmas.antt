@@ -12,12 +12,13 @@ use Rattle.rt_plain.specs.Sleeps.{Did, Made, Same, Halted}
 use Rattle.rt_plain.specs.Ticks.{tick_effect}
 use Rattle.rt_plain.specs.Steps.{happens}
 use Rattle.rt_plain.specs.Opening.{open_state}
-use Rattle.rt_plain.specs.Runs.{Course, after, opened, course_after, course_unless, is_over, entry_tick, line_count}
+use Rattle.rt_plain.specs.Runs.{Course, after, opened, course_after, course_unless, is_over, is_event_of, entry_tick, line_count, IsCompleteIn}
 use Rattle.rt_plain.specs.Commands.{run_of}
-use Rattle.rt_plain.specs.Schedules.{most_turns, Driven, moved, turns, driven, begun, is_stopped, is_sleep_of, state_after, rounds, round_count, closing_event, place_unless_slept, place_after_closing}
+use Rattle.std.proofs.lemmas.List.Elements.{All-nil}
+use Rattle.rt_plain.specs.Schedules.{most_turns, Driven, moved, turns, driven, begun, is_stopped, is_sleep_of, state_after, rounds, round_count, closing_event, place_unless_slept, place_after_closing, IsDriveable, IsScheduled, listed_of}
 use Rattle.kernel_step.specs.Seen.{MachineSeen, limit_of}
 use Rattle.kernel_step.specs.Built.{IsBuilt}
-use Rattle.kernel_step.specs.Ends.{place_of, stands, turns_left, IsOnWay, IsLimited}
+use Rattle.kernel_step.specs.Ends.{place_of, stands, turns_left, IsOnWay, IsLimited, HasCompleted}
 
 after-live : (b : PlainBoard) (c : Course) (e : Event) → c.halt ≡ None → course_after c e (happens b c.state e) ≡ after b c e
 unfolding after
@@ -191,3 +192,17 @@ limited-by b c n is some = by_case c.halt (is_over b c.journal) refl refl some w
         entries_is = numbers.0 ∙ ap (λ (d : Course). length d.journal) is;
         lines_is = numbers.1 ∙ ap (λ (d : Course). line_count d.journal) is;
       }
+
+-- what a schedule makes up to a halt is a complete run
+abbrev SchedulesComplete : Type 0
+SchedulesComplete = (over : List Entry → Bool) (b : PlainBoard) (journal : List Entry) (h : Halt) (t : ℕ) → IsDriveable b → IsScheduled over b journal h t → IsCompleteIn over b journal h t
+
+-- a built board has one core, and its schedule lists no events
+driveable : (b : PlainBoard) → IsBuilt b → IsDriveable b
+driveable b built = record { some_core = rw built.cores (omega arith); listed = rw built.schedule (All-nil _) }
+
+-- a machine that made the run of a built board
+pub completed : SchedulesComplete → (b board : PlainBoard) (c : Course) → IsBuilt board → board ≡ b → c ≡ run_of b → HasCompleted board c
+completed law b board c built same run =
+    let made : HasCompleted board (run_of board) = λ h is. law (is_over board) board _ h _ (driveable board built) (record { made = refl; halted = is; at = refl }) in
+    subst (λ (d : Course). HasCompleted board d) (ap run_of same ∙ sym run) made

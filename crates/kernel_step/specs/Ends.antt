@@ -1,8 +1,9 @@
 -- A machine that the schedule drives.
-use Rattle.std.specs.Prelude.{◌≡◌, ◌+◌, ◌-◌, ◌*◌, ◌≤◌, ℕ, [], None, true, length, replicate}
+use Rattle.std.specs.Prelude.{◌≡◌, ◌+◌, ◌-◌, ◌*◌, ◌≤◌, ℕ, [], Some, None, true, length, replicate}
+use Rattle.rt_base.specs.declared.codes.Halt.{Halt}
 use Rattle.rt_plain.specs.declared.board.Schedule.{Schedule}
 use Rattle.rt_plain.specs.PlainBoard.{PlainBoard}
-use Rattle.rt_plain.specs.Runs.{Course, is_over, line_count}
+use Rattle.rt_plain.specs.Runs.{Course, is_over, line_count, IsComplete}
 use Rattle.rt_plain.specs.Commands.{run_of}
 use Rattle.rt_plain.specs.Schedules.{Place, Driven, turns, driven, begun, is_stopped, words_of_seed}
 use Rattle.kernel_step.specs.Seen.{MachineSeen}
@@ -30,6 +31,10 @@ pub record IsOnWay (b : PlainBoard) (m : MachineSeen) (left : ℕ) : Type 0 wher
   pub fuel : ℕ
   pub enough : turns_left m left ≤ fuel
   pub rest : turns (is_over b) b Schedule.Round fuel (is_stopped (is_over b) m.course) (stands m.course left) ≡ driven (is_over b) b b.schedule (begun b)
+
+-- what a machine did up to its halt is a complete run of its board: each entry is what its event made, within the limits
+abbrev pub HasCompleted : PlainBoard → Course → Type 0
+HasCompleted b c = (halt : Halt) → c.halt ≡ Some halt → IsComplete b c.journal halt c.state.tick
 
 -- the run of the board meets a limit before it halts, with these numbers of entries and lines
 pub record IsLimited (b : PlainBoard) (entries lines : ℕ) : Type 0 where

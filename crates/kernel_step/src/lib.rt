@@ -4,7 +4,6 @@
 mod built;
 mod did;
 mod kernel;
-pub mod laws;
 mod machine;
 mod row;
 mod runner;

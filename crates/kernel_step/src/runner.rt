@@ -4,12 +4,13 @@ ghost use Rattle.rt_plain.specs.Runs.{is_over, opened};
 ghost use Rattle.rt_plain.specs.Schedules.{scheduled_course, moved, is_stopped};
 ghost use Rattle.rt_plain.specs.Commands.{run_of};
 ghost use Rattle.kernel_step.specs.Built.{is_built};
-ghost use Rattle.kernel_step.specs.Ends.{stands, turns_left, MeetsLimit};
+ghost use Rattle.kernel_step.specs.Ends.{stands, turns_left, HasCompleted, MeetsLimit};
 ghost use Rattle.kernel_step.specs.declared.runner.RunFault.TheVariants.{Memory};
 
 use crate::{Machine, StartFault};
 use rt_base::{CoreNo, Event, Steps};
 use rt_plain::Board;
+use rt_plain::laws::scheduled_runs_are_complete;
 use std::alloc::{AllocError, Global};
 use std::marker::Brand;
 use std::sync::ledger::{Blank, Ledger};
@@ -82,6 +83,8 @@ fn run_counted<L: Ledger>(
     ensures board { IfOk result (λ m. m.board ≡ board) }
     ensures run { IfOk result (λ m. m.course ≡ run_of board) }
     ensures halted { IfOk result (λ m. IsSome m.course.halt) }
+    ensures complete { IfOk result (λ m. HasCompleted m.board m.course) }
+    ensures built { IfOk result (λ m. is_built board ≡ true) }
     ensures later { IsErrOf result RunFault.Later ↔ (is_built board ≡ false) }
     ensures limit { IfErr result (MeetsLimit board) }
 {
@@ -91,6 +94,8 @@ fn run_counted<L: Ledger>(
         Err(StartFault::Memory) => return Err(RunFault::Memory),
     };
     let machine = drive(opened, steps)?;
+    machine.facts();
+    scheduled_runs_are_complete();
     match machine.limit() {
         Some((entries, lines)) => Err(RunFault::Limit { entries, lines }),
         None => Ok(machine),
@@ -105,6 +110,8 @@ fn run_blank<L: Ledger>(alloc: Global, board: Board, blank: Blank) -> Result<Mac
     ensures board { IfOk result (λ m. m.board ≡ board) }
     ensures run { IfOk result (λ m. m.course ≡ run_of board) }
     ensures halted { IfOk result (λ m. IsSome m.course.halt) }
+    ensures complete { IfOk result (λ m. HasCompleted m.board m.course) }
+    ensures built { IfOk result (λ m. is_built board ≡ true) }
     ensures later { IsErrOf result RunFault.Later ↔ (is_built board ≡ false) }
     ensures limit { IfErr result (MeetsLimit board) }
 {
@@ -112,13 +119,15 @@ fn run_blank<L: Ledger>(alloc: Global, board: Board, blank: Blank) -> Result<Mac
     run_counted(alloc, board, &mut steps)
 }
 
-/// The machine after the run of a board by its schedule, which has halted. `Later` comes exactly where the board has
+/// The machine after the run of a board by its schedule, which has halted and is complete. `Later` comes exactly where the board has
 /// something that isn't built yet; `Limit` exactly where the run meets a limit before it halts, with its numbers of
 /// entries and lines. A limit is tested before each event.
 pub fn run(alloc: Global, board: Board) -> Result<Machine, RunFault>
     ensures board { IfOk result (λ m. m.board ≡ board) }
     ensures run { IfOk result (λ m. m.course ≡ run_of board) }
     ensures halted { IfOk result (λ m. IsSome m.course.halt) }
+    ensures complete { IfOk result (λ m. HasCompleted m.board m.course) }
+    ensures built { IfOk result (λ m. is_built board ≡ true) }
     ensures later { IsErrOf result RunFault.Later ↔ (is_built board ≡ false) }
     ensures limit { IfErr result (MeetsLimit board) }
 {

@@ -1,5 +1,5 @@
 -- Each call keeps what holds of a state.
-use Rattle.std.proofs.Common.{◌≡◌, ◌+◌, ◌-◌, ◌≤◌, ◌<◌, ℕ, zero, suc, List, Option, Some, None, Bool, true, false, not, ◌||◌, eqb, nat_lt, refl, ap, subst, arith, ltb-true, leb-false, eqb-true, if◌then◌else◌}
+use Rattle.std.proofs.Common.{◌≡◌, ◌+◌, ◌-◌, ◌≤◌, ◌<◌, ℕ, zero, suc, List, Option, Some, None, Bool, true, false, not, eqb, nat_lt, refl, ap, subst, arith, ltb-true, leb-false, eqb-true, if◌then◌else◌}
 use Rattle.rt_base.specs.declared.codes.Code.{Code}
 use Rattle.rt_plain.specs.declared.stmt.Call.{Call}
 use Rattle.rt_plain.specs.State.{State, Stage, Initial, Active, Waiting, Suspended, Closed, Awaited, InCall, Nest, thread_at, find_thread, running_on, is_initial, is_closed, is_among, is_nest_of}
@@ -10,6 +10,7 @@ use Rattle.rt_plain.specs.Sound.{is_active, is_waiting, is_timed_call}
 use Rattle.rt_plain.proofs.TallyLemmas.{tally, tally-among}
 use Rattle.rt_plain.proofs.Invariant.{Frame, Kept, parts, is_fine_awaited, IsNestRun, IsOffNest, fine-at, thread-kept, running-active, placed-active, off-nest, off-core, active-kept, waiting-kept, suspended-kept}
 use Rattle.rt_plain.proofs.WakeLemmas.{wake-kept, close-kept}
+use Rattle.rt_plain.proofs.TestLemmas.{not-false, or-right, some-is}
 
 -- what an outcome keeps
 abbrev pub KeptOutcome : Frame → Outcome → Type 0
@@ -40,29 +41,19 @@ pub text-kept : (f : Frame) (s : State) (by : By) (text : List ℕ) → Kept f s
 text-kept f s (ByThread t core) text kept = thread-kept f s t (record (thread_at s t) { text = text }) refl (fine-at f s t kept) kept
 text-kept f s (ByTimer name) text kept = kept
 
-or-right : (a b : Bool) → a || b ≡ false → b ≡ false
-or-right false b is = is
-or-right true b is = absurd cc
-
 -- a caller that may wait waits
 pub wait-kept : (f : Frame) (s : State) (t core : ℕ) (what : Awaited) (due : Option ℕ) → running_on s core ≡ Some t → is_fine_awaited what ≡ true → ((d : ℕ) → due ≡ Some d → f.now < d) → Kept f s → KeptOutcome f (wait_outcome s t core what due)
 wait-kept f s t core what due runs fine later kept =
     if-outcome f (may_not_wait s t core) (refusal s Code.Error) _ (λ is. kept) (λ is. waiting-kept f s t core what due runs (off-nest f s core t kept runs (or-right _ (is_nest_of core s.nest) is)) fine f.fits later kept)
 
-some-number : (a b : ℕ) → Some a ≡ Some b → a ≡ b
-some-number a b is = cc
-
-none-some : (d : ℕ) (o : Option ℕ) → o ≡ None → o ≡ Some d → ⊥
-none-some d o none some = cc
-
 first_wait-kept : (f : Frame) (s : State) (t core : ℕ) (call : Call) (timeout : Option ℕ) (code : Code) → running_on s core ≡ Some t → is_timed_call call ≡ true → Kept f s → KeptOutcome f (first_wait_outcome s t core call timeout code)
 first_wait-kept f s t core call None code runs fine kept = wait-kept f s t core (InCall call) None runs fine (λ d is. absurd cc) kept
 first_wait-kept f s t core call (Some zero) code runs fine kept = kept
-first_wait-kept f s t core call (Some (suc n)) code runs fine kept = wait-kept f s t core (InCall call) (Some (s.tick + suc n)) runs fine (λ d is. omega (arith, some-number (s.tick + suc n) d is, kept.tick_is)) kept
+first_wait-kept f s t core call (Some (suc n)) code runs fine kept = wait-kept f s t core (InCall call) (Some (s.tick + suc n)) runs fine (λ d is. omega (arith, some-is (s.tick + suc n) d is, kept.tick_is)) kept
 
 past-later : (tick : ℕ) (due : Option ℕ) (d : ℕ) → is_past tick due ≡ false → due ≡ Some d → tick < d
 past-later tick None d is some = absurd cc
-past-later tick (Some e) d is some = let same : e ≡ d = some-number e d some in omega (arith, leb-false e tick is, same)
+past-later tick (Some e) d is some = let same : e ≡ d = some-is e d some in omega (arith, leb-false e tick is, same)
 
 repeated_wait-kept : (f : Frame) (s : State) (t core : ℕ) (call : Call) (due : Option ℕ) → running_on s core ≡ Some t → is_timed_call call ≡ true → Kept f s → KeptOutcome f (repeated_wait_outcome s t core call due)
 repeated_wait-kept f s t core call due runs fine kept =
@@ -75,7 +66,7 @@ wait_or-kept f s (ByThread t core) (Again due) call timeout code by fine kept = 
 wait_or-kept f s (ByTimer name) attempt call timeout code by fine kept = kept
 
 pub delay-kept : (f : Frame) (s : State) (by : By) (ticks : ℕ) → IsBy f s by → nat_lt 0 ticks ≡ true → Kept f s → KeptOutcome f (delay ticks s by)
-delay-kept f s (ByThread t core) ticks by timed kept = wait-kept f s t core (InCall (Call.Delay ticks)) (Some (s.tick + ticks)) by.0 timed (λ d is. omega (arith, some-number (s.tick + ticks) d is, ltb-true 0 ticks timed, kept.tick_is)) kept
+delay-kept f s (ByThread t core) ticks by timed kept = wait-kept f s t core (InCall (Call.Delay ticks)) (Some (s.tick + ticks)) by.0 timed (λ d is. omega (arith, some-is (s.tick + ticks) d is, ltb-true 0 ticks timed, kept.tick_is)) kept
 delay-kept f s (ByTimer name) ticks by timed kept = kept
 
 pub yield-kept : (f : Frame) (s : State) (by : By) → Kept f s → KeptOutcome f (yield s by)
@@ -89,10 +80,6 @@ initial-idle _ is = absurd cc
 pub startup-kept : (f : Frame) (s : State) (name : List ℕ) → Kept f s → KeptOutcome f (startup name s)
 startup-kept f s name kept = found-outcome f (find_thread s name) (refusal s Code.Inval) _ kept (λ t is. if-outcome f (is_initial (thread_at s t).stage) _ (refusal s Code.Error)
     (λ initial. active-kept f s t (initial-idle (thread_at s t).stage initial).0 (initial-idle (thread_at s t).stage initial).1 kept) (λ started. kept))
-
-not-false : (c : Bool) → not c ≡ true → c ≡ false
-not-false false is = refl
-not-false true is = absurd cc
 
 ready-fits : (f : Frame) (s : State) (t : ℕ) → Kept f s → is_among s.ready t ≡ true → (is_active (thread_at s t).stage ≡ true) × IsOffNest (parts s) t
 ready-fits f s t kept among = let some : 1 ≤ tally (λ u. eqb u t) s.ready = tally-among s.ready t among in (placed-active f s t kept (omega (arith, some)), λ n is runs. off-core f s t n.core kept some runs)
@@ -131,11 +118,15 @@ set_prio-kept f s name prio kept = found-outcome f (find_thread s name) (refusal
 nest-kept : (f : Frame) (s : State) (nest : Option Nest) → IsNestRun f.board s.running nest → Kept f s → Kept f (record s { nest = nest })
 nest-kept f s nest runs kept = record {
   tick_is = kept.tick_is;
+  live = kept.live;
+  ends = kept.ends;
   count = kept.count;
   cores = kept.cores;
   placed = kept.placed;
   rows = kept.rows;
   due_few = kept.due_few;
+  single = kept.single;
+  owned = kept.owned;
   fine = kept.fine;
   nest_runs = runs;
   timers_fine = kept.timers_fine;
@@ -143,9 +134,7 @@ nest-kept f s nest runs kept = record {
 
 -- the lock over all cores is held by this core
 held-runs : (f : Frame) (s : State) (m : Nest) → (r : ℕ) × (running_on s m.core ≡ Some r) × (is_shell f.board r ≡ false) → IsNestRun f.board s.running (Some m)
-held-runs f s m runs n is = subst (λ (x : Nest). (r : ℕ) × (running_on s x.core ≡ Some r) × (is_shell f.board r ≡ false)) (same m n is) runs where
-  same : (a b : Nest) → Some a ≡ Some b → a ≡ b
-  same a b e = cc
+held-runs f s m runs n is = subst (λ (x : Nest). (r : ℕ) × (running_on s x.core ≡ Some r) × (is_shell f.board r ≡ false)) (some-is m n is) runs
 
 locked-kept : (f : Frame) (s : State) (t core : ℕ) (nest : Option Nest) → running_on s core ≡ Some t → is_shell f.board t ≡ false → s.nest ≡ nest → Kept f s → KeptOutcome f (lock_outcome core nest s)
 locked-kept f s t core None runs other is kept = nest-kept f s (Some (record { core = core; depth = 1 })) (held-runs f s (record { core = core; depth = 1 }) (t, runs, other)) kept

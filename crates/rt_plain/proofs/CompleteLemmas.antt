@@ -1,5 +1,5 @@
 -- What a schedule makes up to a halt is a complete run.
-use Rattle.std.proofs.Common.{◌≡◌, ◌+◌, ◌-◌, ◌%◌, ◌≤◌, ◌<◌, ◌∷◌, [], ◌++◌, ℕ, zero, suc, List, Option, Some, None, Bool, true, false, IsTrue, is_some, ◌||◌, refl, ◌∙◌, subst, arith, lt-ltb}
+use Rattle.std.proofs.Common.{◌≡◌, ◌+◌, ◌-◌, ◌%◌, ◌≤◌, ◌<◌, ◌∷◌, [], ℕ, zero, suc, List, Option, Some, None, Bool, true, false, IsTrue, is_some, ◌||◌, refl, ◌∙◌, subst, arith, lt-ltb}
 use Rattle.std.specs.Prelude.{fold}
 use Rattle.std.specs.List.{AllByRecursion, range_with_len}
 use Rattle.std.proofs.lemmas.List.Elements.{recursion_from_All}
@@ -19,6 +19,7 @@ use Rattle.rand_pcg.specs.Lcg.{Lcg}
 use Rattle.rand_pcg.specs.Pcg.{pcg32}
 use Rattle.rt_plain.proofs.ReachedLemmas.{halted-state, halts-zero}
 use Rattle.rt_plain.proofs.WithinLemmas.{course-within}
+use Rattle.rt_plain.proofs.TallyLemmas.{all-append}
 
 -- a machine on its way within its limits
 pub record IsGoing (over : List Entry → Bool) (b : PlainBoard) (c : Course) : Type 0 where
@@ -53,13 +54,9 @@ pub range-below : (a n end : ℕ) → a + n ≤ end → AllByRecursion (λ k. k 
 range-below a zero end fits = tt
 range-below a (suc n) end fits = (omega (arith, fits), range-below (a + 1) n end (omega (arith, fits)))
 
-pub All-append : {X : Type 0} (P : X → Type 0) (xs ys : List X) → AllByRecursion P xs → AllByRecursion P ys → AllByRecursion P (xs ++ ys)
-All-append P [] ys all more = more
-All-append P (x ∷ xs) ys all more = (all.0, All-append P xs ys all.1 more)
-
 rounds-below : (b : PlainBoard) (n : ℕ) → AllByRecursion (λ core. core < b.cores) (rounds b n)
 rounds-below b zero = tt
-rounds-below b (suc n) = All-append (λ core. core < b.cores) (range_with_len 0 b.cores) (rounds b n) (range-below 0 b.cores b.cores (omega arith)) (rounds-below b n)
+rounds-below b (suc n) = all-append (λ core. core < b.cores) (range_with_len 0 b.cores) (rounds b n) (range-below 0 b.cores b.cores (omega arith)) (rounds-below b n)
 
 pub period-fits : (b : PlainBoard) (schedule : Schedule) (s : State) (words : Lcg) → FitsPlace b (period_place b schedule s words)
 period-fits b (Schedule.Seed seed) s words = record { listed = tt; left = tt }

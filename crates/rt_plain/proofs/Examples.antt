@@ -11,7 +11,9 @@ pub mod Owners
 pub mod Power
 pub mod Answers
 pub mod Commands
+pub mod Canonical
 pub mod Parts
 pub mod Laws
 pub mod Replayed
 pub mod Scenarios
+pub mod Families

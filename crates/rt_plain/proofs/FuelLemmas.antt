@@ -136,7 +136,7 @@ moved-is : (b : PlainBoard) (schedule : Schedule) (d : Driven) (did : Did) → h
 unfolding moved
 moved-is b schedule d did is = ap (moved_by b schedule d (event_of b d)) is
 
-range-among : (a n k : ℕ) → a ≤ k → k < a + n → is_among (range_with_len a n) k ≡ true
+pub range-among : (a n k : ℕ) → a ≤ k → k < a + n → is_among (range_with_len a n) k ≡ true
 range-among a zero k low high = absurd (omega (arith, low, high))
 range-among a (suc n) k low high = by_test (eqb a k) refl (λ later. range-among (a + 1) n k later (omega (arith, high))) where
   by_test : (c : Bool) → eqb a k ≡ c → (a + 1 ≤ k → is_among (range_with_len (a + 1) n) k ≡ true) → c || is_among (range_with_len (a + 1) n) k ≡ true

@@ -1,12 +1,14 @@
 -- What each action keeps, and how the small changes of a state keep it.
-use Rattle.std.proofs.Common.{◌≡◌, ◌≢◌, ◌⊎◌, inl, inr, ◌+◌, ◌≤◌, ◌<◌, ◌∷◌, [], ◌++◌, ℕ, List, Option, Some, None, Bool, true, false, not, length, eqb, refl, sym, ap, ◌∙◌, subst, arith, eq-eqb, eqb-true, ne_eqb, slice_index_or, slice_set, filter, map, if◌then◌else◌}
-use Rattle.std.specs.List.{AllByRecursion}
+use Rattle.std.proofs.Common.{◌≡◌, ◌≢◌, ◌⊎◌, inl, inr, ◌+◌, ◌≤◌, ◌<◌, ◌∷◌, [], ◌++◌, ℕ, List, Option, Some, None, Bool, true, false, not, length, eqb, refl, sym, ap, ◌∙◌, subst, arith, eq-eqb, eqb-true, ne_eqb, slice_index_or, slice_set, filter, map, bytes_eq, if◌then◌else◌}
+use Rattle.std.specs.List.{AllByRecursion, list_any}
+use Rattle.std.proofs.lemmas.Slice.Eq.{bytes_eq-Decides}
 use Rattle.std.proofs.lemmas.Bool.{eqb-false}
 use Rattle.std.proofs.lemmas.List.{length-map}
+use Rattle.rt_base.specs.declared.codes.Halt.{Halt}
 use Rattle.rt_plain.specs.PlainBoard.{PlainBoard}
 use Rattle.rt_plain.specs.State.{State, Stage, Active, Waiting, Closed, Suspended, Awaited, InCall, AtConsole, Retry, Thread, Timer, Nest, Alarm, OfThread, OfTimer, ArmedRow, no_thread, thread_at, with_thread, running_on, is_number, is_closed, is_nest_of}
 use Rattle.rt_plain.specs.Effects.{with_ready_last, with_ready_first, without_ready, without_core, is_alarm, without_alarm, with_alarm, waiting_state, active_state}
-use Rattle.rt_plain.specs.Statements.{is_shell}
+use Rattle.rt_plain.specs.Statements.{is_shell, script_of}
 use Rattle.rt_plain.specs.ThreadCalls.{suspended_state}
 use Rattle.rt_plain.specs.Owners.{nest_without, withdrawn_state}
 use Rattle.rt_plain.specs.Calls.{is_moved, reordered_state}
@@ -14,13 +16,15 @@ use Rattle.rt_plain.specs.Steps.{with_running, without_mark, preempted_state}
 use Rattle.rt_plain.specs.Runs.{thread_count}
 use Rattle.rt_plain.specs.Sound.{is_active, is_waiting, is_timed_call, is_timed_action}
 use Rattle.rt_plain.proofs.TallyLemmas.{one_if, tally, tally-last, tally-split, tally-filter, tally-without_same, tally-without_other, tally-left_same, tally-left_other, tally-set, tally-at, tally-twice, all-filter, all-passing, all-append, all-at, all-set, same-set, other-set, here-set, past-end, length-set_at, map-at, le_or_lt}
+use Rattle.rt_plain.proofs.TestLemmas.{some-is, clash}
 
--- what an action is made under: the board, the tick of now, the least tick at which a row may be due, and how many rows are due now at most
+-- what an action is made under: the board, the tick of now, the least tick at which a row may be due, how many rows are due now at most, and the latest tick at which a machine hasn't halted
 pub record Frame : Type 0 where
   pub board : PlainBoard
   pub now : ℕ
   pub low : ℕ
   pub few : ℕ
+  pub latest : ℕ
   pub fits : low ≤ now + 1
 
 -- the parts of a state that it speaks of
@@ -32,9 +36,10 @@ pub record Parts : Type 0 where
   pub armed : List (ArmedRow Alarm)
   pub nest : Option Nest
   pub timers : List Timer
+  pub halt : Option Halt
 
 abbrev pub parts : State → Parts
-parts s = record { tick = s.tick; threads = s.threads; ready = s.ready; running = s.running; armed = s.armed; nest = s.nest; timers = s.timers }
+parts s = record { tick = s.tick; threads = s.threads; ready = s.ready; running = s.running; armed = s.armed; nest = s.nest; timers = s.timers; halt = s.halt }
 
 -- what waits, or is to be made again, is timed
 abbrev pub is_fine_awaited : Awaited → Bool
@@ -49,11 +54,17 @@ abbrev pub is_fine_retry : Option Retry → Bool
 is_fine_retry None = true
 is_fine_retry (Some retry) = is_fine_awaited retry.what
 
-abbrev pub IsFineThread : Thread → Type 0
-IsFineThread row = (is_fine_stage row.stage ≡ true) × (is_fine_retry row.retry ≡ true)
+-- and a thread that isn't closed stands at a statement of its script, or behind it
+abbrev pub IsFineThread : PlainBoard → Thread → Type 0
+IsFineThread b row = (is_fine_stage row.stage ≡ true) × (is_fine_retry row.retry ≡ true) × (is_closed row.stage ≡ false → row.next ≤ length (script_of b row.name) + 2)
 
 abbrev pub IsFineTimer : Timer → Type 0
 IsFineTimer timer = (1 ≤ timer.time) × (is_timed_action timer.call ≡ true)
+
+-- whether an alarm is that of a timer that is there, or of a thread
+abbrev pub is_owned : List Timer → Alarm → Bool
+is_owned timers (OfThread t) = true
+is_owned timers (OfTimer name) = list_any (λ timer. bytes_eq timer.name name) timers
 
 -- the stage of a thread
 abbrev pub stage_at : List Thread → ℕ → Stage
@@ -67,6 +78,10 @@ IsWaited threads (OfTimer name) = Unit {0}
 abbrev pub IsRowKept : ℕ → List Thread → ArmedRow Alarm → Type 0
 IsRowKept low threads row = (low ≤ row.due) × IsWaited threads row.alarm
 
+-- a timer's row is that of a timer that is there
+abbrev pub IsOwned : List Timer → ArmedRow Alarm → Type 0
+IsOwned timers row = is_owned timers row.alarm ≡ true
+
 -- how often a thread stands in the ready list and on cores
 abbrev pub places : List ℕ → List (Option ℕ) → ℕ → ℕ
 places ready running t = tally (λ u. eqb u t) ready + tally (is_number t) running
@@ -77,12 +92,16 @@ IsNestRun b running nest = (n : Nest) → nest ≡ Some n → (r : ℕ) × (slic
 
 pub record Holds (f : Frame) (p : Parts) : Type 0 where
   pub tick_is : p.tick ≡ f.now
+  pub live : 1 ≤ f.board.until → p.halt ≡ None → p.tick ≤ f.latest
+  pub ends : (halt : Halt) → p.halt ≡ Some halt → halt ≡ Halt.Until
   pub count : length p.threads ≡ thread_count f.board
   pub cores : length p.running ≡ f.board.cores
   pub placed : (t : ℕ) → places p.ready p.running t ≡ one_if (is_active (stage_at p.threads t))
   pub rows : AllByRecursion (IsRowKept f.low p.threads) p.armed
   pub due_few : tally (λ row. eqb row.due f.now) p.armed ≤ f.few
-  pub fine : AllByRecursion IsFineThread p.threads
+  pub single : (alarm : Alarm) → tally (λ row. is_alarm alarm row.alarm) p.armed ≤ 1
+  pub owned : AllByRecursion (IsOwned p.timers) p.armed
+  pub fine : AllByRecursion (IsFineThread f.board) p.threads
   pub nest_runs : IsNestRun f.board p.running p.nest
   pub timers_fine : AllByRecursion IsFineTimer p.timers
 
@@ -98,12 +117,12 @@ rows-stay low threads news (row ∷ rows) waits all = ((all.0.0, by_alarm row.al
   by_alarm (OfThread t) is = waits t is
   by_alarm (OfTimer name) is = tt
 
-fine-none : IsFineThread no_thread
-fine-none = (refl, refl)
+fine-none : (b : PlainBoard) → IsFineThread b no_thread
+fine-none b = (refl, refl, λ is. absurd cc)
 
 -- a thread's row is fine
-pub fine-at : (f : Frame) (s : State) (t : ℕ) → Kept f s → IsFineThread (thread_at s t)
-fine-at f s t kept = all-at IsFineThread s.threads t no_thread fine-none kept.fine
+pub fine-at : (f : Frame) (s : State) (t : ℕ) → Kept f s → IsFineThread f.board (thread_at s t)
+fine-at f s t kept = all-at (IsFineThread f.board) s.threads t no_thread (fine-none f.board) kept.fine
 
 -- a thread that isn't closed is there
 pub is-there : (threads : List Thread) (t : ℕ) → is_closed (stage_at threads t) ≡ false → t < length threads
@@ -115,15 +134,19 @@ is-there threads t open_stage = by_place (le_or_lt (length threads) t) where
   by_place (inr lt) = lt
 
 -- another row of a thread, in the same stage
-pub thread-kept : (f : Frame) (s : State) (t : ℕ) (row : Thread) → row.stage ≡ (thread_at s t).stage → IsFineThread row → Kept f s → Kept f (with_thread s t row)
+pub thread-kept : (f : Frame) (s : State) (t : ℕ) (row : Thread) → row.stage ≡ (thread_at s t).stage → IsFineThread f.board row → Kept f s → Kept f (with_thread s t row)
 thread-kept f s t row same fine kept = record {
   tick_is = kept.tick_is;
+  live = kept.live;
+  ends = kept.ends;
   count = length-set_at s.threads t row ∙ kept.count;
   cores = kept.cores;
   placed = λ u. kept.placed u ∙ ap (λ stage. one_if (is_active stage)) (sym (stays u));
   rows = rows-stay f.low s.threads (slice_set s.threads t row) s.armed (λ u is. ap is_waiting (stays u) ∙ is) kept.rows;
   due_few = kept.due_few;
-  fine = all-set IsFineThread s.threads t row fine kept.fine;
+  single = kept.single;
+  owned = kept.owned;
+  fine = all-set (IsFineThread f.board) s.threads t row fine kept.fine;
   nest_runs = kept.nest_runs;
   timers_fine = kept.timers_fine;
 } where
@@ -164,26 +187,48 @@ rows-without low threads t row armed all = all-passing (IsRowKept low threads) (
 pub without_alarm-kept : (f : Frame) (s : State) (alarm : Alarm) → Kept f s → Kept f (without_alarm s alarm)
 without_alarm-kept f s alarm kept = record {
   tick_is = kept.tick_is;
+  live = kept.live;
+  ends = kept.ends;
   count = kept.count;
   cores = kept.cores;
   placed = kept.placed;
   rows = rows-dropped f.low s.threads alarm s.armed kept.rows;
   due_few = omega (arith, kept.due_few, tally-filter (λ (row : ArmedRow Alarm). eqb row.due f.now) (λ r. not (is_alarm alarm r.alarm)) s.armed);
+  single = λ other. omega (arith, kept.single other, tally-filter (λ (r : ArmedRow Alarm). is_alarm other r.alarm) (λ r. not (is_alarm alarm r.alarm)) s.armed);
+  owned = all-filter (IsOwned s.timers) (λ r. not (is_alarm alarm r.alarm)) s.armed kept.owned;
   fine = kept.fine;
   nest_runs = kept.nest_runs;
   timers_fine = kept.timers_fine;
 }
 
+-- two alarms that the test takes for one are one
+pub alarm-is : (a c : Alarm) → is_alarm a c ≡ true → a ≡ c
+alarm-is (OfThread t) (OfThread u) is = ap OfThread (eqb-true t u is)
+alarm-is (OfTimer a) (OfTimer c) is = ap OfTimer ((bytes_eq-Decides a c).0 is)
+alarm-is (OfThread t) (OfTimer c) is = absurd cc
+alarm-is (OfTimer a) (OfThread u) is = absurd cc
+
+pub alone-more : (armed : List (ArmedRow Alarm)) (row : ArmedRow Alarm) → tally (λ (r : ArmedRow Alarm). is_alarm row.alarm r.alarm) armed ≡ 0 → ((alarm : Alarm) → tally (λ (r : ArmedRow Alarm). is_alarm alarm r.alarm) armed ≤ 1)
+    → (alarm : Alarm) → tally (λ (r : ArmedRow Alarm). is_alarm alarm r.alarm) (armed ++ row ∷ []) ≤ 1
+alone-more armed row alone single alarm = by_test (is_alarm alarm row.alarm) refl where
+  by_test : (c : Bool) → is_alarm alarm row.alarm ≡ c → tally (λ (r : ArmedRow Alarm). is_alarm alarm r.alarm) (armed ++ row ∷ []) ≤ 1
+  by_test true is = omega (arith, tally-last (λ (r : ArmedRow Alarm). is_alarm alarm r.alarm) armed row, ap one_if is, subst (λ a. tally (λ (r : ArmedRow Alarm). is_alarm a r.alarm) armed ≡ 0) (sym (alarm-is alarm row.alarm is)) alone)
+  by_test false is = omega (arith, tally-last (λ (r : ArmedRow Alarm). is_alarm alarm r.alarm) armed row, ap one_if is, single alarm)
+
 -- a row for what waits, or for a timer, is armed for a later tick
-pub with_alarm-kept : (f : Frame) (s : State) (alarm : Alarm) (due : Option ℕ) → IsWaited s.threads alarm → f.low ≤ f.now + 1 → ((d : ℕ) → due ≡ Some d → f.now < d) → Kept f s → Kept f (with_alarm s alarm due)
-with_alarm-kept f s alarm None waits low later kept = kept
-with_alarm-kept f s alarm (Some d) waits low later kept = record {
+pub with_alarm-kept : (f : Frame) (s : State) (alarm : Alarm) (due : Option ℕ) → tally (λ (row : ArmedRow Alarm). is_alarm alarm row.alarm) s.armed ≡ 0 → is_owned s.timers alarm ≡ true → IsWaited s.threads alarm → f.low ≤ f.now + 1 → ((d : ℕ) → due ≡ Some d → f.now < d) → Kept f s → Kept f (with_alarm s alarm due)
+with_alarm-kept f s alarm None alone owner waits low later kept = kept
+with_alarm-kept f s alarm (Some d) alone owner waits low later kept = record {
   tick_is = kept.tick_is;
+  live = kept.live;
+  ends = kept.ends;
   count = kept.count;
   cores = kept.cores;
   placed = kept.placed;
   rows = all-append (IsRowKept f.low s.threads) s.armed (record { due = d; number = s.numbers; alarm = alarm } ∷ []) kept.rows ((omega (arith, low, later d refl), waits), tt);
   due_few = omega (arith, kept.due_few, tally-last (λ (row : ArmedRow Alarm). eqb row.due f.now) s.armed (record { due = d; number = s.numbers; alarm = alarm }), undue);
+  single = λ other. alone-more s.armed (record { due = d; number = s.numbers; alarm = alarm }) alone kept.single other;
+  owned = all-append (IsOwned s.timers) s.armed (record { due = d; number = s.numbers; alarm = alarm } ∷ []) kept.owned (owner, tt);
   fine = kept.fine;
   nest_runs = kept.nest_runs;
   timers_fine = kept.timers_fine;
@@ -247,13 +292,17 @@ last-same ready t = omega (arith, tally-last (λ v. eqb v t) ready t, ap one_if 
 pub active-kept : (f : Frame) (s : State) (t : ℕ) → is_active (thread_at s t).stage ≡ false → is_closed (thread_at s t).stage ≡ false → Kept f s → Kept f (active_state s t)
 active-kept f s t idle open_stage kept = record {
   tick_is = kept.tick_is;
+  live = kept.live;
+  ends = kept.ends;
   count = length-set_at s.threads t (record (thread_at s t) { stage = Active }) ∙ kept.count;
   cores = kept.cores;
   placed = placed-set s.threads t (record (thread_at s t) { stage = Active }) s.ready (s.ready ++ t ∷ []) s.running s.running (active-here s.threads t (record (thread_at s t) { stage = Active }) (is-there s.threads t open_stage)) kept.placed
       (λ u apart. omega (arith, last-other s.ready t u apart)) (omega (arith, last-same s.ready t, kept.placed t, ap one_if idle));
   rows = rows-without f.low s.threads t (record (thread_at s t) { stage = Active }) s.armed kept.rows;
   due_few = omega (arith, kept.due_few, tally-filter (λ (row : ArmedRow Alarm). eqb row.due f.now) (λ r. not (is_alarm (OfThread t) r.alarm)) s.armed);
-  fine = all-set IsFineThread s.threads t (record (thread_at s t) { stage = Active }) (refl, (fine-at f s t kept).1) kept.fine;
+  single = λ other. omega (arith, kept.single other, tally-filter (λ (r : ArmedRow Alarm). is_alarm other r.alarm) (λ r. not (is_alarm (OfThread t) r.alarm)) s.armed);
+  owned = all-filter (IsOwned s.timers) (λ r. not (is_alarm (OfThread t) r.alarm)) s.armed kept.owned;
+  fine = all-set (IsFineThread f.board) s.threads t (record (thread_at s t) { stage = Active }) (refl, (fine-at f s t kept).1, λ is. (fine-at f s t kept).2 open_stage) kept.fine;
   nest_runs = kept.nest_runs;
   timers_fine = kept.timers_fine;
 }
@@ -295,9 +344,25 @@ off-core f s t core kept ready runs = omega (arith, kept.placed t, one (is_activ
   one true = omega arith
   one false = omega arith
 
+active-waitless : (stage : Stage) → is_active stage ≡ true → is_waiting stage ≡ false
+active-waitless Active is = refl
+active-waitless (Waiting what number) is = absurd cc
+active-waitless _ is = refl
+
+-- a thread that doesn't wait has no row
+no-rows : (low : ℕ) (threads : List Thread) (t : ℕ) (armed : List (ArmedRow Alarm)) → is_waiting (stage_at threads t) ≡ false → AllByRecursion (IsRowKept low threads) armed → tally (λ (row : ArmedRow Alarm). is_alarm (OfThread t) row.alarm) armed ≡ 0
+no-rows low threads t [] idle all = refl
+no-rows low threads t (row ∷ rows) idle all = omega (arith, here row.alarm all.0.1, no-rows low threads t rows idle all.1) where
+  here : (alarm : Alarm) → IsWaited threads alarm → one_if (is_alarm (OfThread t) alarm) ≡ 0
+  here (OfTimer name) waits = refl
+  here (OfThread u) waits = by_test (eqb t u) refl where
+    by_test : (c : Bool) → eqb t u ≡ c → one_if c ≡ 0
+    by_test false is = refl
+    by_test true is = absurd (clash (is_waiting (stage_at threads u)) waits (subst (λ v. is_waiting (stage_at threads v) ≡ false) (eqb-true t u is) idle))
+
 -- a running thread waits
 pub waiting-kept : (f : Frame) (s : State) (t core : ℕ) (what : Awaited) (due : Option ℕ) → running_on s core ≡ Some t → IsOffNest (parts s) t → is_fine_awaited what ≡ true → f.low ≤ f.now + 1 → ((d : ℕ) → due ≡ Some d → f.now < d) → Kept f s → Kept f (waiting_state s t what due)
-waiting-kept f s t core what due runs off fine low later kept = with_alarm-kept f joined (OfThread t) due waits low later joined-kept where
+waiting-kept f s t core what due runs off fine low later kept = with_alarm-kept f joined (OfThread t) due (no-rows f.low s.threads t s.armed (active-waitless (thread_at s t).stage (running-active f s core t kept runs)) kept.rows) refl waits low later joined-kept where
   row : Thread
   row = record (thread_at s t) { stage = Waiting what s.numbers }
 
@@ -319,13 +384,17 @@ waiting-kept f s t core what due runs off fine low later kept = with_alarm-kept 
   joined-kept : Kept f joined
   joined-kept = record {
     tick_is = kept.tick_is;
+    live = kept.live;
+    ends = kept.ends;
     count = length-set_at s.threads t row ∙ kept.count;
     cores = length-map s.running (λ r. if is_number t r then None else r) ∙ kept.cores;
     placed = placed-set s.threads t row s.ready s.ready s.running (without_core s t).running (active-here s.threads t row there) kept.placed
         (λ u apart. omega (arith, tally-left_other t u s.running apart)) (omega (arith, tally-left_same t s.running, kept.placed t, running-count s.running core t runs, one (is_active (stage_at s.threads t))));
     rows = rows-stay f.low s.threads (slice_set s.threads t row) s.armed still kept.rows;
     due_few = kept.due_few;
-    fine = all-set IsFineThread s.threads t row (fine, (fine-at f s t kept).1) kept.fine;
+    single = kept.single;
+    owned = kept.owned;
+    fine = all-set (IsFineThread f.board) s.threads t row (fine, (fine-at f s t kept).1, λ is. (fine-at f s t kept).2 (active-open (thread_at s t).stage (running-active f s core t kept runs))) kept.fine;
     nest_runs = nest-left f s t kept off;
     timers_fine = kept.timers_fine;
   } where
@@ -341,13 +410,17 @@ one-most false = omega arith
 pub suspended-kept : (f : Frame) (s : State) (t : ℕ) → is_active (thread_at s t).stage ≡ true → IsOffNest (parts s) t → Kept f s → Kept f (suspended_state s t)
 suspended-kept f s t active off kept = record {
   tick_is = kept.tick_is;
+  live = kept.live;
+  ends = kept.ends;
   count = length-set_at s.threads t row ∙ kept.count;
   cores = length-map s.running (λ r. if is_number t r then None else r) ∙ kept.cores;
   placed = placed-set s.threads t row s.ready (without_ready s t).ready s.running (without_core s t).running (active-here s.threads t row (is-there s.threads t (active-open (thread_at s t).stage active))) kept.placed
       (λ u apart. omega (arith, tally-left_other t u s.running apart, tally-without_other t u s.ready apart)) (omega (arith, tally-left_same t s.running, tally-without_same t s.ready));
   rows = rows-stay f.low s.threads (slice_set s.threads t row) s.armed still kept.rows;
   due_few = kept.due_few;
-  fine = all-set IsFineThread s.threads t row (refl, (fine-at f s t kept).1) kept.fine;
+  single = kept.single;
+  owned = kept.owned;
+  fine = all-set (IsFineThread f.board) s.threads t row (refl, (fine-at f s t kept).1, λ is. (fine-at f s t kept).2 (active-open (thread_at s t).stage active)) kept.fine;
   nest_runs = nest-left f s t kept off;
   timers_fine = kept.timers_fine;
 } where
@@ -369,15 +442,12 @@ suspended-kept f s t active off kept = record {
 ended-nest : (f : Frame) (s : State) (t : ℕ) → Kept f s → (o : Option Nest) → o ≡ s.nest → IsNestRun f.board (without_core s t).running (nest_without s t o)
 ended-nest f s t kept None is n ends = absurd cc
 ended-nest f s t kept (Some m) is n ends = by_test (is_number t (running_on s m.core)) refl ends where
-  same : (a b : Nest) → Some a ≡ Some b → a ≡ b
-  same a b e = cc
-
   stays : (q : ℕ) × (running_on s m.core ≡ Some q) × (is_shell f.board q ≡ false) → is_number t (running_on s m.core) ≡ false → (r : ℕ) × (slice_index_or (without_core s t).running m.core None ≡ Some r) × (is_shell f.board r ≡ false)
   stays runs off = (runs.0, left-at s.running t m.core runs.0 runs.1 (ap (is_number t) (sym runs.1) ∙ off), runs.2)
 
   by_test : (c : Bool) → is_number t (running_on s m.core) ≡ c → (if c then None else Some m) ≡ Some n → (r : ℕ) × (slice_index_or (without_core s t).running n.core None ≡ Some r) × (is_shell f.board r ≡ false)
   by_test true off ends = absurd cc
-  by_test false off ends = subst (λ (x : Nest). (r : ℕ) × (slice_index_or (without_core s t).running x.core None ≡ Some r) × (is_shell f.board r ≡ false)) (same m n ends) (stays (kept.nest_runs m (sym is)) off)
+  by_test false off ends = subst (λ (x : Nest). (r : ℕ) × (slice_index_or (without_core s t).running x.core None ≡ Some r) × (is_shell f.board r ≡ false)) (some-is m n ends) (stays (kept.nest_runs m (sym is)) off)
 
 closed-here : (threads : List Thread) (t : ℕ) (row : Thread) → row.stage ≡ Closed → one_if (is_active (stage_at (slice_set threads t row) t)) ≡ one_if (is_active row.stage)
 closed-here threads t row is = by_place (le_or_lt (length threads) t) where
@@ -388,13 +458,17 @@ closed-here threads t row is = by_place (le_or_lt (length threads) t) where
 pub withdrawn-kept : (f : Frame) (s : State) (t : ℕ) → Kept f s → Kept f (withdrawn_state s t)
 withdrawn-kept f s t kept = record {
   tick_is = kept.tick_is;
+  live = kept.live;
+  ends = kept.ends;
   count = length-set_at s.threads t row ∙ kept.count;
   cores = length-map s.running (λ r. if is_number t r then None else r) ∙ kept.cores;
   placed = placed-set s.threads t row s.ready (without_ready s t).ready s.running (without_core s t).running (closed-here s.threads t row refl) kept.placed
       (λ u apart. omega (arith, tally-left_other t u s.running apart, tally-without_other t u s.ready apart)) (omega (arith, tally-left_same t s.running, tally-without_same t s.ready));
   rows = rows-without f.low s.threads t row s.armed kept.rows;
   due_few = omega (arith, kept.due_few, tally-filter (λ (row : ArmedRow Alarm). eqb row.due f.now) (λ r. not (is_alarm (OfThread t) r.alarm)) s.armed);
-  fine = all-set IsFineThread s.threads t row (refl, refl) kept.fine;
+  single = λ other. omega (arith, kept.single other, tally-filter (λ (r : ArmedRow Alarm). is_alarm other r.alarm) (λ r. not (is_alarm (OfThread t) r.alarm)) s.armed);
+  owned = all-filter (IsOwned s.timers) (λ r. not (is_alarm (OfThread t) r.alarm)) s.armed kept.owned;
+  fine = all-set (IsFineThread f.board) s.threads t row (refl, refl, λ is. absurd cc) kept.fine;
   nest_runs = ended-nest f s t kept s.nest refl;
   timers_fine = kept.timers_fine;
 } where
@@ -405,11 +479,15 @@ withdrawn-kept f s t kept = record {
 pub reordered-kept : (f : Frame) (before s : State) → Kept f s → Kept f (reordered_state before s)
 reordered-kept f before s kept = record {
   tick_is = kept.tick_is;
+  live = kept.live;
+  ends = kept.ends;
   count = kept.count;
   cores = kept.cores;
   placed = λ t. omega (arith, tally-split (λ u. eqb u t) (is_moved before s) s.ready, kept.placed t);
   rows = kept.rows;
   due_few = kept.due_few;
+  single = kept.single;
+  owned = kept.owned;
   fine = kept.fine;
   nest_runs = kept.nest_runs;
   timers_fine = kept.timers_fine;
@@ -435,11 +513,15 @@ nest-elsewhere b running nest core r apart runs n is = ((runs n is).0, other-set
 pub run-kept : (f : Frame) (s : State) (core p : ℕ) → core < f.board.cores → running_on s core ≡ None → 1 ≤ tally (λ u. eqb u p) s.ready → Kept f s → Kept f (with_running s core p)
 run-kept f s core p board_core free ready kept = record {
   tick_is = kept.tick_is;
+  live = kept.live;
+  ends = kept.ends;
   count = kept.count;
   cores = length-set_at s.running core (Some p) ∙ kept.cores;
   placed = placed;
   rows = kept.rows;
   due_few = kept.due_few;
+  single = kept.single;
+  owned = kept.owned;
   fine = kept.fine;
   nest_runs = nest-elsewhere f.board s.running s.nest core (Some p) (λ n is same. clash (running_on s n.core) (kept.nest_runs n is).0 (subst (λ c. running_on s c ≡ None) (sym same) free) (kept.nest_runs n is).1) kept.nest_runs;
   timers_fine = kept.timers_fine;
@@ -465,11 +547,15 @@ swap-kept : (f : Frame) (s : State) (core r p : ℕ) (ready : List ℕ) → runn
     → Kept f (with_running (record s { ready = ready }) core p)
 swap-kept f s core r p ready runs free some put kept = record {
   tick_is = kept.tick_is;
+  live = kept.live;
+  ends = kept.ends;
   count = kept.count;
   cores = length-set_at s.running core (Some p) ∙ kept.cores;
   placed = placed;
   rows = kept.rows;
   due_few = kept.due_few;
+  single = kept.single;
+  owned = kept.owned;
   fine = kept.fine;
   nest_runs = nest-elsewhere f.board s.running s.nest core (Some p) (λ n is same. clash (sym (eq-eqb n.core core same) ∙ (sym (ap (is_nest_of core) is) ∙ free))) kept.nest_runs;
   timers_fine = kept.timers_fine;

@@ -1,5 +1,6 @@
 -- Worked examples of the definitions, computed.
 pub mod Examples
+pub mod TestLemmas
 pub mod RunLemmas
 pub mod ReachedLemmas
 pub mod WithinLemmas
@@ -16,3 +17,22 @@ pub mod TickLemmas
 pub mod StepLemmas
 pub mod OpenLemmas
 pub mod SoundLemmas
+pub mod NumberLemmas
+pub mod SplitLemmas
+pub mod QuoteLemmas
+pub mod FieldLemmas
+pub mod FieldListLemmas
+pub mod StatementTableLemmas
+pub mod TailLemmas
+pub mod LineTableLemmas
+pub mod LineLemmas
+pub mod BoardLemmas
+pub mod SkipLemmas
+pub mod CostLemmas
+pub mod CallCosts
+pub mod StatementCosts
+pub mod TickCosts
+pub mod CanonLemmas
+pub mod ValidLemmas
+pub mod RoomLemmas
+pub mod FireLemmas

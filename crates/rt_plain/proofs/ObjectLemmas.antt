@@ -1,14 +1,15 @@
 -- Each call on an object keeps what holds of a state, and with them the whole table.
-use Rattle.std.proofs.Common.{◌≡◌, ◌≢◌, ◌+◌, ◌∷◌, [], ◌++◌, ℕ, List, Option, Some, None, Bool, true, false, is_some, cond, length, eqb, nat_lt, nat_le, bytes_eq, refl, ap, ◌∙◌, subst, arith, ltb-true, filter, map, if◌then◌else◌, bit_and, bit_or}
+use Rattle.std.proofs.Common.{◌≡◌, ◌≢◌, ◌+◌, ◌∷◌, [], ◌++◌, ℕ, List, Option, Some, None, Bool, true, false, ◌||◌, is_some, cond, length, eqb, nat_lt, nat_le, bytes_eq, refl, ap, ◌∙◌, subst, arith, ltb-true, filter, map, if◌then◌else◌, bit_and, bit_or, sym}
 use Rattle.std.specs.List.{AllByRecursion}
+use Rattle.std.proofs.lemmas.Slice.Eq.{bytes_eq-Decides}
 use Rattle.rt_base.specs.declared.codes.Code.{Code}
 use Rattle.rt_base.specs.declared.codes.Class.{Class}
 use Rattle.rt_base.specs.declared.codes.Sleep.{Sleep}
 use Rattle.rt_base.specs.declared.codes.WaitOrder.{WaitOrder}
 use Rattle.rt_plain.specs.declared.stmt.Call.{Call}
 use Rattle.rt_plain.specs.PlainBoard.{PlainBoard}
-use Rattle.rt_plain.specs.State.{State, Stage, Waiting, InCall, Thread, Timer, OfTimer, Sem, EventObj, Holding, Mailbox, MsgQueue, Device, thread_at, with_thread, no_thread}
-use Rattle.rt_plain.specs.Effects.{each_effect, wake_effect, retry_wake_effect, effect_for, without_alarm, due_of}
+use Rattle.rt_plain.specs.State.{State, Stage, Waiting, InCall, Thread, Timer, OfTimer, Sem, EventObj, Holding, Mailbox, MsgQueue, Device, thread_at, with_thread, no_thread, Alarm, ArmedRow, OfThread}
+use Rattle.rt_plain.specs.Effects.{each_effect, wake_effect, retry_wake_effect, effect_for, without_alarm, due_of, is_alarm}
 use Rattle.rt_plain.specs.Waiting.{waiters, first_waiter, number_in, takes_sem, takes_mutex, receives_event, sends_mail, receives_mail, sends_message, receives_message}
 use Rattle.rt_plain.specs.Outcome.{By, ByThread, ByTimer, Attempt, First, refusal, with_value, with_text, missing_outcome}
 use Rattle.rt_plain.specs.SemCalls.{find_sem, sem_create, sem_take, sem_release_outcome, sem_release}
@@ -23,10 +24,11 @@ use Rattle.rt_plain.specs.DeviceCalls.{find_device, with_device, is_open, dev_op
 use Rattle.rt_plain.specs.PowerCalls.{votes_for, pm_request, pm_release}
 use Rattle.rt_plain.specs.Calls.{outcome_of}
 use Rattle.rt_plain.specs.Sound.{is_waiting, is_timed_call}
-use Rattle.rt_plain.proofs.TallyLemmas.{all-weaker, all-filter, all-append, all-map, all-found, same-set, other-set}
-use Rattle.rt_plain.proofs.Invariant.{Frame, Kept, stage_at, IsFineTimer, fine-at, thread-kept, without_alarm-kept, with_alarm-kept}
+use Rattle.rt_plain.proofs.TallyLemmas.{all-weaker, all-filter, all-append, all-map, all-found, same-set, other-set, tally-dropped}
+use Rattle.rt_plain.proofs.Invariant.{Frame, Kept, stage_at, is_owned, IsOwned, IsFineTimer, fine-at, thread-kept, without_alarm-kept, with_alarm-kept}
 use Rattle.rt_plain.proofs.WakeLemmas.{wake-kept, retry_wake-kept, wake-others, IsListed, AllApart, apart-map, waiters-listed, waiters-apart, waiters-wait, first-waits, each-wakes, for-kept, give_back-kept}
 use Rattle.rt_plain.proofs.CallLemmas.{KeptOutcome, IsBy, if-outcome, found-outcome, missing-kept, value-kept, text-kept, wait_or-kept, delay-kept, yield-kept, startup-kept, suspend-kept, resume-kept, kill-kept, set_prio-kept, lock-kept, unlock-kept, sched_lock-kept, sched_unlock-kept}
+use Rattle.rt_plain.proofs.TestLemmas.{or-second}
 
 -- semaphores
 sem_create-kept : (f : Frame) (b : PlainBoard) (s : State) (name : List ℕ) (value : ℕ) (order : WaitOrder) → Kept f s → KeptOutcome f (sem_create b name value order s)
@@ -54,12 +56,12 @@ valued-kept f flags w s waits kept = wake-kept f (with_thread s w.thread row) Co
   row : Thread
   row = record (thread_at s w.thread) { value = bit_and flags w.want.mask }
 
-valued-others : (flags : ℕ) (w : Wanting) (s : State) (u : ℕ) → u ≢ w.thread → stage_at (flags_wake_effect flags w s).state.threads u ≡ stage_at s.threads u
+pub valued-others : (flags : ℕ) (w : Wanting) (s : State) (u : ℕ) → u ≢ w.thread → stage_at (flags_wake_effect flags w s).state.threads u ≡ stage_at s.threads u
 valued-others flags w s u apart = wake-others (with_thread s w.thread row) Code.Ok w.thread u apart ∙ ap (λ (r : Thread). r.stage) (other-set s.threads w.thread u row no_thread apart) where
   row : Thread
   row = record (thread_at s w.thread) { value = bit_and flags w.want.mask }
 
-apart-filter : {A : Type 0} (key : A → ℕ) (q : A → Bool) (xs : List A) → AllApart key xs → AllApart key (filter q xs)
+pub apart-filter : {A : Type 0} (key : A → ℕ) (q : A → Bool) (xs : List A) → AllApart key xs → AllApart key (filter q xs)
 apart-filter key q [] all = tt
 apart-filter key q (x ∷ xs) all = by_test (q x) (apart-filter key q xs all.1) where
   by_test : (c : Bool) → AllApart key (filter q xs) → AllApart key (cond c (x ∷ filter q xs) (filter q xs))
@@ -115,11 +117,11 @@ mb_send-kept f s name word timeout by attempt is kept = found-outcome f (find_ma
 mb_urgent-kept : (f : Frame) (s : State) (name : List ℕ) (word : ℕ) → Kept f s → KeptOutcome f (mb_urgent name word s)
 mb_urgent-kept f s name word kept = found-outcome f (find_mailbox s name) (missing_outcome s First) _ kept (λ mailbox found. if-outcome f (has_mail_room mailbox) _ (refusal s Code.Full) (λ room. mail_put-kept f s mailbox (word ∷ mailbox.words) kept) (λ full. kept))
 
-value-stages : (s : State) (by : By) (value t : ℕ) → stage_at (with_value s by value).threads t ≡ stage_at s.threads t
+pub value-stages : (s : State) (by : By) (value t : ℕ) → stage_at (with_value s by value).threads t ≡ stage_at s.threads t
 value-stages s (ByThread u core) value t = same-set (λ (r : Thread). r.stage) s.threads u t (record (thread_at s u) { value = value }) no_thread refl
 value-stages s (ByTimer name) value t = refl
 
-text-stages : (s : State) (by : By) (text : List ℕ) (t : ℕ) → stage_at (with_text s by text).threads t ≡ stage_at s.threads t
+pub text-stages : (s : State) (by : By) (text : List ℕ) (t : ℕ) → stage_at (with_text s by text).threads t ≡ stage_at s.threads t
 text-stages s (ByThread u core) text t = same-set (λ (r : Thread). r.stage) s.threads u t (record (thread_at s u) { text = text }) no_thread refl
 text-stages s (ByTimer name) text t = refl
 
@@ -168,16 +170,16 @@ listed-call p q never (Waiting (InCall call) number) is also = by_test (p call) 
   by_test true false here there is also = cc
 listed-call p q never _ is also = cc
 
-lists-apart : (s : State) (order : WaitOrder) (p q : Call → Bool) → ((call : Call) → p call ≡ true → q call ≡ true → ⊥) → AllApart (λ t. t) (waiters s order p ++ waiters s order q)
+pub lists-apart : (s : State) (order : WaitOrder) (p q : Call → Bool) → ((call : Call) → p call ≡ true → q call ≡ true → ⊥) → AllApart (λ t. t) (waiters s order p ++ waiters s order q)
 lists-apart s order p q never = apart-append (waiters s order p) (waiters s order q) (waiters-apart s order p) (waiters-apart s order q)
     (all-weaker (IsListed p s.threads) (λ x. AllByRecursion (λ y. y ≢ x) (waiters s order q)) (waiters s order p)
     (λ x here. all-weaker (IsListed q s.threads) (λ y. y ≢ x) (waiters s order q) (λ y there same. listed-call p q never (stage_at s.threads x) here (subst (IsListed q s.threads) same there)) (waiters-listed s order q)) (waiters-listed s order p))
 
-mail-lists : (name : List ℕ) (call : Call) → receives_mail name call ≡ true → sends_mail name call ≡ true → ⊥
+pub mail-lists : (name : List ℕ) (call : Call) → receives_mail name call ≡ true → sends_mail name call ≡ true → ⊥
 mail-lists name (Call.MbSend box word timeout) is also = cc
 mail-lists name _ is also = cc
 
-message-lists : (name : List ℕ) (call : Call) → receives_message name call ≡ true → sends_message name call ≡ true → ⊥
+pub message-lists : (name : List ℕ) (call : Call) → receives_message name call ≡ true → sends_message name call ≡ true → ⊥
 message-lists name (Call.MqSend queue timeout message) is also = cc
 message-lists name _ is also = cc
 
@@ -194,16 +196,24 @@ delete-kept f s Class.Timer name kept = kept
 delete-kept f s Class.Device name kept = kept
 
 -- timers
-pub armed-kept : (f : Frame) (s : State) (timer : Timer) → IsFineTimer timer → Kept f s → Kept f (with_timer_armed s timer)
-armed-kept f s timer fine kept = with_alarm-kept f (without_alarm s (OfTimer timer.name)) (OfTimer timer.name) (Some (s.tick + timer.time)) tt f.fits (λ d is. omega (arith, due-is d is, fine.0, kept.tick_is)) (without_alarm-kept f s (OfTimer timer.name) kept) where
+pub armed-kept : (f : Frame) (s : State) (timer : Timer) → IsFineTimer timer → is_owned s.timers (OfTimer timer.name) ≡ true → Kept f s → Kept f (with_timer_armed s timer)
+armed-kept f s timer fine owner kept = with_alarm-kept f (without_alarm s (OfTimer timer.name)) (OfTimer timer.name) (Some (s.tick + timer.time)) (tally-dropped (λ (r : ArmedRow Alarm). is_alarm (OfTimer timer.name) r.alarm) s.armed) owner tt f.fits (λ d is. omega (arith, due-is d is, fine.0, kept.tick_is)) (without_alarm-kept f s (OfTimer timer.name) kept) where
   due-is : (d : ℕ) → Some (s.tick + timer.time) ≡ Some d → s.tick + timer.time ≡ d
   due-is d is = cc
+
+-- each timer is one of them
+all-named : (timers : List Timer) → AllByRecursion (λ (timer : Timer). is_owned timers (OfTimer timer.name) ≡ true) timers
+all-named [] = tt
+all-named (o ∷ os) = (rw ((bytes_eq-Decides o.name o.name).1 refl) refl, all-weaker (λ (timer : Timer). is_owned os (OfTimer timer.name) ≡ true) (λ (timer : Timer). is_owned (o ∷ os) (OfTimer timer.name) ≡ true) os (λ timer is. or-second (bytes_eq o.name timer.name) (is_owned os (OfTimer timer.name)) is) (all-named os))
+
+pub found-owner : (s : State) (name : List ℕ) (timer : Timer) → find_timer s name ≡ Some timer → is_owned s.timers (OfTimer timer.name) ≡ true
+found-owner s name timer is = all-found (λ (o : Timer). is_owned s.timers (OfTimer o.name) ≡ true) (λ (o : Timer). bytes_eq o.name name) s.timers timer is (all-named s.timers)
 
 pub found-timer : (f : Frame) (s : State) (name : List ℕ) (timer : Timer) → find_timer s name ≡ Some timer → Kept f s → IsFineTimer timer
 found-timer f s name timer is kept = all-found IsFineTimer (λ (o : Timer). bytes_eq o.name name) s.timers timer is kept.timers_fine
 
 timer_start-kept : (f : Frame) (s : State) (name : List ℕ) → Kept f s → KeptOutcome f (timer_start name s)
-timer_start-kept f s name kept = found-outcome f (find_timer s name) (refusal s Code.Inval) _ kept (λ timer found. armed-kept f s timer (found-timer f s name timer found kept) kept)
+timer_start-kept f s name kept = found-outcome f (find_timer s name) (refusal s Code.Inval) _ kept (λ timer found. armed-kept f s timer (found-timer f s name timer found kept) (found-owner s name timer found) kept)
 
 timer_stop-kept : (f : Frame) (s : State) (name : List ℕ) → Kept f s → KeptOutcome f (timer_stop name s)
 timer_stop-kept f s name kept = found-outcome f (find_timer s name) (refusal s Code.Inval) _ kept (λ timer found. if-outcome f (is_some (due_of s (OfTimer name))) _ (refusal s Code.Error) (λ is. without_alarm-kept f s (OfTimer name) kept) (λ is. kept))
@@ -215,14 +225,32 @@ replaced-fine (o ∷ os) timer fine all = (by_test (bytes_eq o.name timer.name),
   by_test true = fine
   by_test false = all.0
 
+replaced-name : (o timer : Timer) → (if bytes_eq o.name timer.name then timer else o).name ≡ o.name
+replaced-name o timer = by_test (bytes_eq o.name timer.name) refl where
+  by_test : (c : Bool) → bytes_eq o.name timer.name ≡ c → (if c then timer else o).name ≡ o.name
+  by_test true is = sym ((bytes_eq-Decides o.name timer.name).0 is)
+  by_test false is = refl
+
+replaced-names : (timers : List Timer) (timer : Timer) (name : List ℕ) → is_owned (map (λ (o : Timer). if bytes_eq o.name timer.name then timer else o) timers) (OfTimer name) ≡ is_owned timers (OfTimer name)
+replaced-names [] timer name = refl
+replaced-names (o ∷ os) timer name = ap (λ (n : List ℕ). bytes_eq n name || is_owned (map (λ (x : Timer). if bytes_eq x.name timer.name then timer else x) os) (OfTimer name)) (replaced-name o timer) ∙ ap (λ (c : Bool). bytes_eq o.name name || c) (replaced-names os timer name)
+
+replaced-owner : (timers : List Timer) (timer : Timer) (alarm : Alarm) → is_owned timers alarm ≡ true → is_owned (map (λ (o : Timer). if bytes_eq o.name timer.name then timer else o) timers) alarm ≡ true
+replaced-owner timers timer (OfThread t) is = refl
+replaced-owner timers timer (OfTimer name) is = replaced-names timers timer name ∙ is
+
 timer-kept : (f : Frame) (s : State) (timer : Timer) → IsFineTimer timer → Kept f s → Kept f (with_timer s timer)
 timer-kept f s timer fine kept = record {
   tick_is = kept.tick_is;
+  live = kept.live;
+  ends = kept.ends;
   count = kept.count;
   cores = kept.cores;
   placed = kept.placed;
   rows = kept.rows;
   due_few = kept.due_few;
+  single = kept.single;
+  owned = all-weaker (IsOwned s.timers) (IsOwned (with_timer s timer).timers) s.armed (λ row is. replaced-owner s.timers timer row.alarm is) kept.owned;
   fine = kept.fine;
   nest_runs = kept.nest_runs;
   timers_fine = replaced-fine s.timers timer fine kept.timers_fine;

@@ -2,14 +2,15 @@
 use Rattle.std.proofs.Common.{◌≡◌, ◌+◌, ◌≤◌, ◌<◌, [], ℕ, List, None, Bool, true, false, length, eqb, refl, ◌∙◌, subst, arith, eq-eqb, if◌then◌else◌}
 use Rattle.std.proofs.lemmas.List.Elements.{All-from_recursion}
 use Rattle.rt_plain.specs.declared.entry.Entry.{Entry}
+use Rattle.rt_plain.specs.Effects.{is_alarm}
 use Rattle.rt_plain.specs.PlainBoard.{PlainBoard}
-use Rattle.rt_plain.specs.State.{State, Alarm, OfThread, OfTimer, thread_at, is_number}
+use Rattle.rt_plain.specs.State.{State, Alarm, OfThread, OfTimer, thread_at, is_number, ArmedRow}
 use Rattle.rt_plain.specs.Opening.{open_state}
 use Rattle.rt_plain.specs.Runs.{IsMade, IsRun, IsRunIn, is_over, is_over_in}
-use Rattle.rt_plain.specs.Sound.{is_active, place_count, IsTimed, IsSound, IsWaitedFor}
+use Rattle.rt_plain.specs.Sound.{is_active, place_count, IsProper, IsSound, IsWaitedFor}
 use Rattle.rt_plain.proofs.RunLemmas.{IsRun-keeps}
 use Rattle.rt_plain.proofs.TallyLemmas.{one_if, tally-count, all-weaker}
-use Rattle.rt_plain.proofs.Invariant.{places, IsRowKept, IsWaited, nest-core}
+use Rattle.rt_plain.proofs.Invariant.{places, IsRowKept, IsWaited, nest-core, fine-at}
 use Rattle.rt_plain.proofs.TickLemmas.{still}
 use Rattle.rt_plain.proofs.StepLemmas.{KeptAt, KeptDid, event-kept}
 use Rattle.rt_plain.proofs.OpenLemmas.{opened-kept}
@@ -17,15 +18,15 @@ use Rattle.rt_plain.specs.declared.board.Schedule.{Schedule}
 use Rattle.rt_plain.specs.Schedules.{IsDriveable, scheduled_course, driven, rounds_begun}
 use Rattle.rt_plain.proofs.FuelLemmas.{IsHeldRunning, IsLimited, scheduled-stops, rounds-stop}
 
-made-kept : (b : PlainBoard) (s new : State) (e : Entry) → IsTimed b → KeptAt b s → IsMade b s e new → KeptAt b new
+made-kept : (b : PlainBoard) (s new : State) (e : Entry) → IsProper b → KeptAt b s → IsMade b s e new → KeptAt b new
 made-kept b s new e timed kept made = subst (KeptDid b) made.1 (event-kept b kept.0 s timed kept.1 e.event made.0)
 
 -- what holds of every reached state
-pub reached-kept : (b : PlainBoard) (journal : List Entry) (s : State) → IsTimed b → IsRun b (open_state b) journal s → KeptAt b s
+pub reached-kept : (b : PlainBoard) (journal : List Entry) (s : State) → IsProper b → IsRun b (open_state b) journal s → KeptAt b s
 reached-kept b journal s timed run = IsRun-keeps b (KeptAt b) (λ old new e kept made. made-kept b old new e timed kept made) (open_state b) s journal (0, opened-kept b timed) run
 
 -- a core that holds the lock over all cores runs a thread
-pub reached-held : (b : PlainBoard) → IsTimed b → (journal : List Entry) (s : State) → IsRun b (open_state b) journal s → IsHeldRunning b s
+pub reached-held : (b : PlainBoard) → IsProper b → (journal : List Entry) (s : State) → IsRun b (open_state b) journal s → IsHeldRunning b s
 reached-held b timed journal s run n is =
     let kept : KeptAt b s = reached-kept b journal s timed run in
     (nest-core (still b kept.0) s n kept.1 is, (kept.1.nest_runs n is).0, (kept.1.nest_runs n is).1)
@@ -41,21 +42,25 @@ row-waits : (s : State) (alarm : Alarm) → IsWaited s.threads alarm → IsWaite
 row-waits s (OfThread t) waits = waits
 row-waits s (OfTimer name) waits = tt
 
-kept-sound : (b : PlainBoard) (s : State) → KeptAt b s → IsSound b s
-kept-sound b s kept = record {
+kept-sound : (b : PlainBoard) (s : State) → IsProper b → KeptAt b s → IsSound b s
+kept-sound b s proper kept = record {
+  live = λ on. omega (arith, kept.1.live proper.until on, proper.until);
+  ends = kept.1.ends;
   places = λ t. places-count s t ∙ kept.1.placed t ∙ one_if-cond (is_active (thread_at s t).stage);
+  next = λ t is. (fine-at (still b kept.0) s t kept.1).2 is;
   threads = kept.1.count;
   cores = kept.1.cores;
   ahead = All-from_recursion (λ row. s.tick < row.due) s.armed (all-weaker (IsRowKept (kept.0 + 1) s.threads) (λ row. s.tick < row.due) s.armed (λ row is. omega (arith, is.0, kept.1.tick_is)) kept.1.rows);
   waits = All-from_recursion (λ row. IsWaitedFor s row.alarm) s.armed (all-weaker (IsRowKept (kept.0 + 1) s.threads) (λ row. IsWaitedFor s row.alarm) s.armed (λ row is. row-waits s row.alarm is.1) kept.1.rows);
+  alone = λ alarm. omega (arith, tally-count (λ (row : ArmedRow Alarm). is_alarm alarm row.alarm) s.armed, kept.1.single alarm);
   nest_runs = λ n is. (nest-core (still b kept.0) s n kept.1 is, (kept.1.nest_runs n is).0, (kept.1.nest_runs n is).1);
 }
 
-pub reached-sound : (b : PlainBoard) (journal : List Entry) (s : State) → IsTimed b → IsRun b (open_state b) journal s → IsSound b s
-reached-sound b journal s timed run = kept-sound b s (reached-kept b journal s timed run)
+pub reached-sound : (b : PlainBoard) (journal : List Entry) (s : State) → IsProper b → IsRun b (open_state b) journal s → IsSound b s
+reached-sound b journal s timed run = kept-sound b s timed (reached-kept b journal s timed run)
 
 -- a limit at the board's number of entries stops every run
-limited : (over : List Entry → Bool) (b : PlainBoard) → IsTimed b → 1 ≤ b.cores → ((journal : List Entry) → length journal ≡ b.entries → over journal ≡ true) → IsLimited over b
+limited : (over : List Entry → Bool) (b : PlainBoard) → IsProper b → 1 ≤ b.cores → ((journal : List Entry) → length journal ≡ b.entries → over journal ≡ true) → IsLimited over b
 limited over b timed some full = record { some_core = some; full = full; held = reached-held b timed }
 
 over-full : (b : PlainBoard) (journal : List Entry) → length journal ≡ b.entries → is_over b journal ≡ true
@@ -64,12 +69,12 @@ over-full b journal is = rw (eq-eqb (length journal) b.entries is) refl
 over_in-full : (entries lines : ℕ) (b : PlainBoard) (journal : List Entry) → length journal ≡ b.entries → is_over_in entries lines b journal ≡ true
 over_in-full entries lines b journal is = rw (eq-eqb (length journal) b.entries is) refl
 
-pub scheduled-ends : (b : PlainBoard) → IsDriveable b → IsTimed b → (scheduled_course (is_over b) b).halt ≡ None → is_over b (scheduled_course (is_over b) b).journal ≡ true
+pub scheduled-ends : (b : PlainBoard) → IsDriveable b → IsProper b → (scheduled_course (is_over b) b).halt ≡ None → is_over b (scheduled_course (is_over b) b).journal ≡ true
 scheduled-ends b driveable timed = scheduled-stops (is_over b) b (limited (is_over b) b timed driveable.some_core (over-full b)) driveable
 
-pub scheduled-ends_in : (entries lines : ℕ) (b : PlainBoard) → IsDriveable b → IsTimed b → (scheduled_course (is_over_in entries lines b) b).halt ≡ None → is_over_in entries lines b (scheduled_course (is_over_in entries lines b) b).journal ≡ true
+pub scheduled-ends_in : (entries lines : ℕ) (b : PlainBoard) → IsDriveable b → IsProper b → (scheduled_course (is_over_in entries lines b) b).halt ≡ None → is_over_in entries lines b (scheduled_course (is_over_in entries lines b) b).journal ≡ true
 scheduled-ends_in entries lines b driveable timed = scheduled-stops (is_over_in entries lines b) b (limited (is_over_in entries lines b) b timed driveable.some_core (over_in-full entries lines b)) driveable
 
-pub rounds-end : (b : PlainBoard) (journal : List Entry) (s : State) → 1 ≤ b.cores → IsTimed b → IsRunIn (is_over b) b [] (open_state b) journal s
+pub rounds-end : (b : PlainBoard) (journal : List Entry) (s : State) → 1 ≤ b.cores → IsProper b → IsRunIn (is_over b) b [] (open_state b) journal s
     → (driven (is_over b) b Schedule.Round (rounds_begun b s journal)).course.halt ≡ None → is_over b (driven (is_over b) b Schedule.Round (rounds_begun b s journal)).course.journal ≡ true
 rounds-end b journal s some timed run = rounds-stop (is_over b) b journal s (limited (is_over b) b timed some (over-full b)) run

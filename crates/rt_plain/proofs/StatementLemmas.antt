@@ -1,5 +1,5 @@
 -- Statements of threads keep what holds of a state.
-use Rattle.std.proofs.Common.{◌≡◌, ◌+◌, ◌-◌, ◌∷◌, [], ℕ, zero, suc, List, Option, Some, None, Bool, true, false, ◌&&◌, eqb, refl, sym, ◌∙◌, subst, slice_get, unwrap_or, option_map, if◌then◌else◌, bytes_eq}
+use Rattle.std.proofs.Common.{◌≡◌, inl, inr, ◌+◌, ◌-◌, ◌∷◌, [], ℕ, zero, suc, List, Option, Some, None, Bool, true, false, eqb, refl, sym, ◌∙◌, subst, slice_get, unwrap_or, option_map, if◌then◌else◌, bytes_eq, ◌≤◌, length, slice_set, arith, ap, ◌<◌, ◌⊎◌, inl, inr}
 use Rattle.std.specs.List.{find, list_any, list_all, before_first, after_first}
 use Rattle.std.proofs.lemmas.List.Elements.{recursion_from_All}
 use Rattle.rt_base.specs.declared.codes.Code.{Code}
@@ -8,27 +8,29 @@ use Rattle.rt_plain.specs.declared.line.Line.{Line}
 use Rattle.rt_plain.specs.declared.board.ThreadDef.{ThreadDef}
 use Rattle.rt_plain.specs.declared.stmt.Stmt.{Stmt}
 use Rattle.rt_plain.specs.PlainBoard.{PlainBoard}
-use Rattle.rt_plain.specs.State.{State, Awaited, InCall, AtConsole, Retry, Thread, Device, thread_at, with_thread, running_on}
+use Rattle.rt_plain.specs.State.{State, Awaited, InCall, AtConsole, Retry, Thread, Device, thread_at, with_thread, running_on, no_thread, Closed}
 use Rattle.rt_plain.specs.Effects.{Effect}
 use Rattle.rt_plain.specs.Outcome.{ByThread, First, Again, Answer, Answers, Waits, Outcome}
 use Rattle.rt_plain.specs.Calls.{outcome_of, settled_effect}
 use Rattle.rt_plain.specs.Shell.{longer_line, prompt_effect, turn_effect, reading_effect, line_read_effect, shell_effect, console_bytes, with_received, with_console_bytes, console_name, is_newline}
 use Rattle.rt_plain.specs.DeviceCalls.{find_device}
 use Rattle.rt_plain.specs.Statements.{script_of, statement_at, is_shell, with_next, print_effect, said_text, with_counter, plain_effect, with_answer, call_effect, done_effect, next_statement_effect, repeated_call_effect, script_effect, statement_effect, target}
-use Rattle.rt_plain.specs.Sound.{is_timed, IsTimed}
-use Rattle.rt_plain.proofs.TallyLemmas.{all-found}
-use Rattle.rt_plain.proofs.Invariant.{Frame, Kept, parts, is_fine_retry, is_fine_awaited, IsOffNest, fine-at, thread-kept, waiting-kept, reordered-kept}
-use Rattle.rt_plain.proofs.WakeLemmas.{close-kept}
+use Rattle.rt_plain.specs.Sound.{is_timed, IsProper}
+use Rattle.rt_plain.specs.Owners.{close_effect, withdrawn_state, give_back_effect, mutexes_of}
+use Rattle.rt_plain.proofs.TallyLemmas.{all-found, same-set, le_or_lt, past-end, length-set_at, here-set}
+use Rattle.rt_plain.proofs.Invariant.{Frame, Kept, parts, is_fine_retry, is_fine_awaited, IsOffNest, fine-at, thread-kept, waiting-kept, reordered-kept, withdrawn-kept}
+use Rattle.rt_plain.proofs.WakeLemmas.{close-kept, each-kept, give_back-kept}
 use Rattle.rt_plain.proofs.CallLemmas.{KeptOutcome, IsBy}
 use Rattle.rt_plain.proofs.ObjectLemmas.{outcome-kept}
+use Rattle.rt_plain.proofs.TestLemmas.{and-left, and-right, some-is}
 
 -- a choice of states
 pub if-state : (f : Frame) (c : Bool) (x y : State) → Kept f x → Kept f y → Kept f (if c then x else y)
 if-state f true x y one other = one
 if-state f false x y one other = other
 
-pub next-kept : (f : Frame) (s : State) (t k : ℕ) → Kept f s → Kept f (with_next s t k)
-next-kept f s t k kept = thread-kept f s t (record (thread_at s t) { next = k }) refl (fine-at f s t kept) kept
+pub next-kept : (f : Frame) (s : State) (t k : ℕ) → k ≤ length (script_of f.board (thread_at s t).name) + 2 → Kept f s → Kept f (with_next s t k)
+next-kept f s t k few kept = thread-kept f s t (record (thread_at s t) { next = k }) refl ((fine-at f s t kept).0, (fine-at f s t kept).1, λ is. few) kept
 
 counter-kept : (f : Frame) (s : State) (t n : ℕ) → Kept f s → Kept f (with_thread s t (with_counter (thread_at s t) n))
 counter-kept f s t n kept = thread-kept f s t (with_counter (thread_at s t) n) refl (fine-at f s t kept) kept
@@ -37,18 +39,22 @@ print-kept : (f : Frame) (s : State) (text : List ℕ) → Kept f s → Kept f (
 print-kept f s [] kept = kept
 print-kept f s (byte ∷ bytes) kept = kept
 
-plain-kept : (f : Frame) (script : List Stmt) (s : State) (t : ℕ) (stmt : Stmt) → Kept f s → Kept f (plain_effect script t stmt s).state
-plain-kept f script s t (Stmt.Print text) kept = print-kept f s text kept
-plain-kept f script s t (Stmt.Say what) kept = print-kept f s (said_text what (thread_at s t)) kept
-plain-kept f script s t (Stmt.Goto k) kept = next-kept f s t (target script k) kept
-plain-kept f script s t (Stmt.IfCode code k) kept = if-state f (eqb (code_number (thread_at s t).code) (code_number code)) (with_next s t (target script k)) s (next-kept f s t (target script k) kept) kept
-plain-kept f script s t (Stmt.Count n) kept = counter-kept f s t n kept
-plain-kept f script s t (Stmt.Next k) kept =
+-- no jump goes further than to the implied exit
+target-few : (script : List Stmt) (k : ℕ) → target script k ≤ length script + 2
+target-few script k = omega arith
+
+plain-kept : (f : Frame) (script : List Stmt) (s : State) (t : ℕ) (stmt : Stmt) → length script ≡ length (script_of f.board (thread_at s t).name) → Kept f s → Kept f (plain_effect script t stmt s).state
+plain-kept f script s t (Stmt.Print text) same kept = print-kept f s text kept
+plain-kept f script s t (Stmt.Say what) same kept = print-kept f s (said_text what (thread_at s t)) kept
+plain-kept f script s t (Stmt.Goto k) same kept = next-kept f s t (target script k) (omega (arith, target-few script k, same)) kept
+plain-kept f script s t (Stmt.IfCode code k) same kept = if-state f (eqb (code_number (thread_at s t).code) (code_number code)) (with_next s t (target script k)) s (next-kept f s t (target script k) (omega (arith, target-few script k, same)) kept) kept
+plain-kept f script s t (Stmt.Count n) same kept = counter-kept f s t n kept
+plain-kept f script s t (Stmt.Next k) same kept =
     let lowered : State = with_thread s t (with_counter (thread_at s t) ((thread_at s t).counter - 1)) in
     let low : Kept f lowered = counter-kept f s t ((thread_at s t).counter - 1) kept in
-    if-state f (eqb ((thread_at s t).counter - 1) 0) lowered (with_next lowered t (target script k)) low (next-kept f lowered t (target script k) low)
-plain-kept f script s t Stmt.Exit kept = close-kept f s t kept
-plain-kept f script s t (Stmt.Do call) kept = kept
+    if-state f (eqb ((thread_at s t).counter - 1) 0) lowered (with_next lowered t (target script k)) low (next-kept f lowered t (target script k) (omega (arith, target-few script k, same, ap (λ (name : List ℕ). length (script_of f.board name)) (same-set (λ (r : Thread). r.name) s.threads t t (with_counter (thread_at s t) ((thread_at s t).counter - 1)) no_thread refl))) low)
+plain-kept f script s t Stmt.Exit same kept = close-kept f s t kept
+plain-kept f script s t (Stmt.Do call) same kept = kept
 
 answer-kept : (f : Frame) (s : State) (t : ℕ) (answer : Answer) → Kept f s → Kept f (with_answer t answer s)
 answer-kept f s t (Answers code) kept = thread-kept f s t (record (thread_at s t) { code = code }) refl (fine-at f s t kept) kept
@@ -57,43 +63,83 @@ answer-kept f s t Waits kept = kept
 called-kept : (f : Frame) (t : ℕ) (line : Option Code → Line) (outcome : Outcome) → KeptOutcome f outcome → Kept f (call_effect t line outcome).state
 called-kept f t line outcome kept = answer-kept f outcome.effect.state t outcome.answer kept
 
-done-kept : (f : Frame) (s : State) (t core : ℕ) (name : List ℕ) (k : ℕ) (stmt : Stmt) → is_timed stmt ≡ true → IsBy f s (ByThread t core) → Kept f s → Kept f (done_effect f.board t core name k stmt s).state
-done-kept f s t core name k (Stmt.Do call) timed by kept = called-kept f t (Line.Done name k) (outcome_of f.board call s (ByThread t core) First) (outcome-kept f f.board s call (ByThread t core) First timed by kept)
-done-kept f s t core name k (Stmt.Print text) timed by kept = plain-kept f (script_of f.board name) s t (Stmt.Print text) kept
-done-kept f s t core name k (Stmt.Say what) timed by kept = plain-kept f (script_of f.board name) s t (Stmt.Say what) kept
-done-kept f s t core name k (Stmt.Goto n) timed by kept = plain-kept f (script_of f.board name) s t (Stmt.Goto n) kept
-done-kept f s t core name k (Stmt.IfCode code n) timed by kept = plain-kept f (script_of f.board name) s t (Stmt.IfCode code n) kept
-done-kept f s t core name k (Stmt.Count n) timed by kept = plain-kept f (script_of f.board name) s t (Stmt.Count n) kept
-done-kept f s t core name k (Stmt.Next n) timed by kept = plain-kept f (script_of f.board name) s t (Stmt.Next n) kept
-done-kept f s t core name k Stmt.Exit timed by kept = plain-kept f (script_of f.board name) s t Stmt.Exit kept
+done-kept : (f : Frame) (s : State) (t core : ℕ) (name : List ℕ) (k : ℕ) (stmt : Stmt) → length (script_of f.board name) ≡ length (script_of f.board (thread_at s t).name) → is_timed stmt ≡ true → IsBy f s (ByThread t core) → Kept f s → Kept f (done_effect f.board t core name k stmt s).state
+done-kept f s t core name k (Stmt.Do call) same timed by kept = called-kept f t (Line.Done name k) (outcome_of f.board call s (ByThread t core) First) (outcome-kept f f.board s call (ByThread t core) First timed by kept)
+done-kept f s t core name k (Stmt.Print text) same timed by kept = plain-kept f (script_of f.board name) s t (Stmt.Print text) same kept
+done-kept f s t core name k (Stmt.Say what) same timed by kept = plain-kept f (script_of f.board name) s t (Stmt.Say what) same kept
+done-kept f s t core name k (Stmt.Goto n) same timed by kept = plain-kept f (script_of f.board name) s t (Stmt.Goto n) same kept
+done-kept f s t core name k (Stmt.IfCode code n) same timed by kept = plain-kept f (script_of f.board name) s t (Stmt.IfCode code n) same kept
+done-kept f s t core name k (Stmt.Count n) same timed by kept = plain-kept f (script_of f.board name) s t (Stmt.Count n) same kept
+done-kept f s t core name k (Stmt.Next n) same timed by kept = plain-kept f (script_of f.board name) s t (Stmt.Next n) same kept
+done-kept f s t core name k Stmt.Exit same timed by kept = plain-kept f (script_of f.board name) s t Stmt.Exit same kept
 
 -- the statements of a timed board are timed
-script-timed : (b : PlainBoard) (name : List ℕ) → IsTimed b → list_all is_timed (script_of b name) ≡ true
+script-timed : (b : PlainBoard) (name : List ℕ) → IsProper b → list_all is_timed (script_of b name) ≡ true
 script-timed b name timed = by_found (find (λ (def : ThreadDef). bytes_eq def.name name) b.threads) refl where
   by_found : (o : Option ThreadDef) → find (λ (def : ThreadDef). bytes_eq def.name name) b.threads ≡ o → list_all is_timed (unwrap_or (option_map (λ (def : ThreadDef). def.script) o) []) ≡ true
   by_found None is = refl
   by_found (Some def) is = all-found (λ (d : ThreadDef). list_all is_timed d.script ≡ true) (λ (d : ThreadDef). bytes_eq d.name name) b.threads def is (recursion_from_All (λ (d : ThreadDef). list_all is_timed d.script ≡ true) b.threads timed.scripts)
 
-both-left : (a b : Bool) → a && b ≡ true → a ≡ true
-both-left true b is = refl
-both-left false b is = absurd cc
-
-both-right : (a b : Bool) → a && b ≡ true → b ≡ true
-both-right true b is = is
-both-right false b is = absurd cc
-
 statement-timed : (script : List Stmt) (i : ℕ) → list_all is_timed script ≡ true → is_timed (unwrap_or (slice_get script i) Stmt.Exit) ≡ true
 statement-timed [] i all = refl
-statement-timed (stmt ∷ script) zero all = both-left (is_timed stmt) (list_all is_timed script) all
-statement-timed (stmt ∷ script) (suc i) all = statement-timed script i (both-right (is_timed stmt) (list_all is_timed script) all)
+statement-timed (stmt ∷ script) zero all = and-left (is_timed stmt) (list_all is_timed script) all
+statement-timed (stmt ∷ script) (suc i) all = statement-timed script i (and-right (is_timed stmt) (list_all is_timed script) all)
 
-next_statement-kept : (f : Frame) (s : State) (t core : ℕ) → IsTimed f.board → IsBy f s (ByThread t core) → Kept f s → Kept f (next_statement_effect f.board t core s).state
-next_statement-kept f s t core timed by kept =
-    let row : Thread = thread_at s t in
-    done-kept f (with_next s t (row.next + 1)) t core row.name row.next (statement_at (script_of f.board row.name) row.next) (statement-timed (script_of f.board row.name) (row.next - 1) (script-timed f.board row.name timed)) by (next-kept f s t (row.next + 1) kept)
+-- past the last statement stands `exit`
+past-exit : (script : List Stmt) (i : ℕ) → length script ≤ i → unwrap_or (slice_get script i) Stmt.Exit ≡ Stmt.Exit
+past-exit [] i past = refl
+past-exit (stmt ∷ script) zero past = absurd (omega (arith, past))
+past-exit (stmt ∷ script) (suc i) past = past-exit script i (omega (arith, past))
+
+set-twice : {X : Type 0} (xs : List X) (i : ℕ) (x y : X) → slice_set (slice_set xs i x) i y ≡ slice_set xs i y
+set-twice [] i x y = refl
+set-twice (z ∷ zs) zero x y = refl
+set-twice {X = X} (z ∷ zs) (suc i) x y = ap (λ (ws : List X). z ∷ ws) (set-twice zs i x y)
+
+-- a thread that ends, whatever its next statement would be
+ended-kept : (f : Frame) (s : State) (t k : ℕ) → Kept f s → Kept f (close_effect t (with_next s t k)).state
+ended-kept f s t k kept = each-kept f give_back_effect (λ mutex u held. give_back-kept f u mutex held) (mutexes_of (with_next s t k) t) (withdrawn_state (with_next s t k) t) gone where
+  first : Thread
+  first = record (thread_at s t) { stage = Closed; retry = None }
+
+  last : Thread
+  last = record (thread_at (with_next s t k) t) { stage = Closed; retry = None }
+
+  closed_at : (length s.threads ≤ t) ⊎ (t < length s.threads) → Closed ≡ (thread_at (withdrawn_state s t) t).stage
+  closed_at (inl past) = sym (ap (λ (r : Thread). r.stage) (past-end (slice_set s.threads t first) t no_thread (omega (arith, past, length-set_at s.threads t first))))
+  closed_at (inr there) = sym (ap (λ (r : Thread). r.stage) (here-set s.threads t first no_thread there))
+
+  closed : Closed ≡ (thread_at (withdrawn_state s t) t).stage
+  closed = closed_at (le_or_lt (length s.threads) t)
+
+  twice : Kept f (with_thread (withdrawn_state s t) t last)
+  twice = thread-kept f (withdrawn_state s t) t last closed (refl, refl, λ is. absurd cc) (withdrawn-kept f s t kept)
+
+  same : slice_set (slice_set s.threads t first) t last ≡ slice_set (slice_set s.threads t (record (thread_at s t) { next = k })) t last
+  same = set-twice s.threads t first last ∙ sym (set-twice s.threads t (record (thread_at s t) { next = k }) last)
+
+  gone : Kept f (withdrawn_state (with_next s t k) t)
+  gone = subst (λ (threads : List Thread). Kept f (record (withdrawn_state s t) { threads = threads })) same twice
+
+next_statement-kept : (f : Frame) (s : State) (t core : ℕ) → IsProper f.board → IsBy f s (ByThread t core) → Kept f s → Kept f (next_statement_effect f.board t core s).state
+next_statement-kept f s t core proper by kept = by_place (le_or_lt row.next (length script + 1)) where
+  row : Thread
+  row = thread_at s t
+
+  script : List Stmt
+  script = script_of f.board row.name
+
+  past : length script < row.next → statement_at script row.next ≡ Stmt.Exit
+  past lt = past-exit script (row.next - 1) (omega (arith, lt))
+
+  by_place : (row.next ≤ length script + 1) ⊎ (length script + 1 < row.next) → Kept f (next_statement_effect f.board t core s).state
+  by_place (inl few) = done-kept f (with_next s t (row.next + 1)) t core row.name row.next (statement_at script row.next)
+      (ap (λ (name : List ℕ). length (script_of f.board name)) (sym (same-set (λ (r : Thread). r.name) s.threads t t (record row { next = row.next + 1 }) no_thread refl)))
+      (statement-timed script (row.next - 1) (script-timed f.board row.name proper)) by (next-kept f s t (row.next + 1) (omega (arith, few)) kept)
+  by_place (inr far) = subst (λ (stmt : Stmt). Kept f (done_effect f.board t core row.name row.next stmt (with_next s t (row.next + 1))).state) (sym (past (omega (arith, far)))) (ended-kept f s t (row.next + 1) kept)
 
 unretried-kept : (f : Frame) (s : State) (t : ℕ) → Kept f s → Kept f (with_thread s t (record (thread_at s t) { retry = None }))
-unretried-kept f s t kept = thread-kept f s t (record (thread_at s t) { retry = None }) refl ((fine-at f s t kept).0, refl) kept
+unretried-kept f s t kept = thread-kept f s t (record (thread_at s t) { retry = None }) refl ((fine-at f s t kept).0, refl, (fine-at f s t kept).2) kept
 
 repeated-kept : (f : Frame) (s : State) (t core : ℕ) (retry : Retry) (what : Awaited) → is_fine_awaited what ≡ true → IsBy f s (ByThread t core) → Kept f s → Kept f (repeated_call_effect f.board t core retry what s).state
 repeated-kept f s t core retry AtConsole fine by kept = kept
@@ -101,7 +147,7 @@ repeated-kept f s t core retry (InCall call) fine by kept =
     let free : State = with_thread s t (record (thread_at s t) { retry = None }) in
     called-kept f t (Line.Again (thread_at s t).name ((thread_at s t).next - 1)) (outcome_of f.board call free (ByThread t core) (Again retry.due)) (outcome-kept f f.board free call (ByThread t core) (Again retry.due) fine by (unretried-kept f s t kept))
 
-script-kept : (f : Frame) (s : State) (t core : ℕ) (retry : Option Retry) → is_fine_retry retry ≡ true → IsTimed f.board → IsBy f s (ByThread t core) → Kept f s → Kept f (script_effect f.board t core retry s).state
+script-kept : (f : Frame) (s : State) (t core : ℕ) (retry : Option Retry) → is_fine_retry retry ≡ true → IsProper f.board → IsBy f s (ByThread t core) → Kept f s → Kept f (script_effect f.board t core retry s).state
 script-kept f s t core None fine timed by kept = next_statement-kept f s t core timed by kept
 script-kept f s t core (Some retry) fine timed by kept = repeated-kept f s t core retry retry.what fine by kept
 
@@ -123,10 +169,7 @@ reading-kept f b bytes s kept = by_newline (list_any is_newline bytes) where
   by_newline false = received-kept f (find_device s console_name) [] s kept
 
 shell-off : (f : Frame) (s : State) (t : ℕ) → is_shell f.board t ≡ true → Kept f s → IsOffNest (parts s) t
-shell-off f s t shell kept n is runs = clash (same (kept.nest_runs n is).0 t (sym (kept.nest_runs n is).1 ∙ runs)) where
-  same : (a b : ℕ) → Some a ≡ Some b → a ≡ b
-  same a b e = cc
-
+shell-off f s t shell kept n is runs = clash (some-is (kept.nest_runs n is).0 t (sym (kept.nest_runs n is).1 ∙ runs)) where
   apart : (c : Bool) → c ≡ true → c ≡ false → ⊥
   apart c yes_case no_case = cc
 
@@ -143,12 +186,12 @@ if-effect f false x y one other = other refl
 
 shell-kept : (f : Frame) (s : State) (t core : ℕ) → running_on s core ≡ Some t → is_shell f.board t ≡ true → Kept f s → Kept f (shell_effect f.board t s).state
 shell-kept f s t core runs shell kept = if-effect f (eqb (thread_at s t).next 1) (prompt_effect t s) (turn_effect f.board t (console_bytes s) s)
-    (λ first. thread-kept f s t (record (thread_at s t) { next = 2 }) refl (fine-at f s t kept) kept) (λ later. turned-kept f s t core (console_bytes s) runs shell kept)
+    (λ first. thread-kept f s t (record (thread_at s t) { next = 2 }) refl ((fine-at f s t kept).0, (fine-at f s t kept).1, λ is. omega arith) kept) (λ later. turned-kept f s t core (console_bytes s) runs shell kept)
 
 -- what follows from an action
 pub settled-kept : (f : Frame) (before : State) (e : Effect) → Kept f e.state → Kept f (settled_effect f.board before e).state
 settled-kept f before e kept = reordered-kept f before e.state kept
 
-pub statement-kept : (f : Frame) (s : State) (t core : ℕ) → IsTimed f.board → running_on s core ≡ Some t → Kept f s → Kept f (statement_effect f.board t core s).state
+pub statement-kept : (f : Frame) (s : State) (t core : ℕ) → IsProper f.board → running_on s core ≡ Some t → Kept f s → Kept f (statement_effect f.board t core s).state
 statement-kept f s t core timed runs kept = settled-kept f s (if is_shell f.board t then shell_effect f.board t s else script_effect f.board t core (thread_at s t).retry s) (if-effect f (is_shell f.board t) (shell_effect f.board t s) (script_effect f.board t core (thread_at s t).retry s)
     (λ shell. shell-kept f s t core runs shell kept) (λ other. script-kept f s t core (thread_at s t).retry (fine-at f s t kept).1 timed (runs, other) kept))

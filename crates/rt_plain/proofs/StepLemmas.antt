@@ -13,11 +13,12 @@ use Rattle.rt_plain.specs.DeviceCalls.{is_busy}
 use Rattle.rt_plain.specs.PowerCalls.{sleep_mode}
 use Rattle.rt_plain.specs.Steps.{happens, without_mark, is_preemptible, takes_from, preempt_did, did_of_effect, statement_did, busy_core_did, is_all_idle, free_core_did, core_did, unhalted_step_did, unhalted_tick_did}
 use Rattle.rt_plain.specs.Runs.{is_event_of}
-use Rattle.rt_plain.specs.Sound.{IsTimed}
+use Rattle.rt_plain.specs.Sound.{IsProper}
 use Rattle.rt_plain.proofs.TallyLemmas.{tally, all-count, all-map, all-filter, all-found}
 use Rattle.rt_plain.proofs.Invariant.{Kept, fine-at, thread-kept, run-kept, preempt-kept}
 use Rattle.rt_plain.proofs.StatementLemmas.{statement-kept}
 use Rattle.rt_plain.proofs.TickLemmas.{still, tick-kept}
+use Rattle.rt_plain.proofs.TestLemmas.{and-left, and-right, not-false, some-is}
 
 -- at some tick
 abbrev pub KeptAt : PlainBoard → State → Type 0
@@ -34,7 +35,7 @@ if-did b true x y one other = one refl
 if-did b false x y one other = other refl
 
 -- a sleep is ticks one after the other
-ticks-kept : (b : PlainBoard) (n now : ℕ) (s : State) → Kept (still b now) s → KeptAt b (ticks b n s).state
+pub ticks-kept : (b : PlainBoard) (n now : ℕ) (s : State) → Kept (still b now) s → KeptAt b (ticks b n s).state
 ticks-kept b zero now s kept = (now, kept)
 ticks-kept b (suc n) now s kept = ticks-kept b n (now + 1) (tick_effect b s).state (tick-kept b now s kept)
 
@@ -57,26 +58,11 @@ picked-ready s core p is = by_row (first_best rows) refl is where
   counts : AllByRecursion (λ (row : ReadyRow). 1 ≤ tally (λ u. eqb u row.thread) s.ready) rows
   counts = all-filter (λ (row : ReadyRow). 1 ≤ tally (λ u. eqb u row.thread) s.ready) (λ row. is_free_for core row.core) (ready_rows s) (all-map (λ (row : ReadyRow). 1 ≤ tally (λ u. eqb u row.thread) s.ready) (ready_row s) s.ready (all-count s.ready))
 
-  same : (a b : ℕ) → Some a ≡ Some b → a ≡ b
-  same a b e = cc
-
   by_row : (o : Option ReadyRow) → first_best rows ≡ o → option_map (λ (row : ReadyRow). row.thread) o ≡ Some p → 1 ≤ tally (λ u. eqb u p) s.ready
   by_row None found is = absurd cc
-  by_row (Some row) found is = subst (λ t. 1 ≤ tally (λ u. eqb u t) s.ready) (same row.thread p is) (all-found (λ (r : ReadyRow). 1 ≤ tally (λ u. eqb u r.thread) s.ready) (λ a. not (list_any (λ c. goes_before c a) rows)) rows row found counts)
+  by_row (Some row) found is = subst (λ t. 1 ≤ tally (λ u. eqb u t) s.ready) (some-is row.thread p is) (all-found (λ (r : ReadyRow). 1 ≤ tally (λ u. eqb u r.thread) s.ready) (λ a. not (list_any (λ c. goes_before c a) rows)) rows row found counts)
 
-and-left : (a b : Bool) → a && b ≡ true → a ≡ true
-and-left true b is = refl
-and-left false b is = absurd cc
-
-and-right : (a b : Bool) → a && b ≡ true → b ≡ true
-and-right true b is = is
-and-right false b is = absurd cc
-
-not-false : (c : Bool) → not c ≡ true → c ≡ false
-not-false false is = refl
-not-false true is = absurd cc
-
-module _ (b : PlainBoard) (now : ℕ) (s : State) (timed : IsTimed b) (kept : Kept (still b now) s) where
+module _ (b : PlainBoard) (now : ℕ) (s : State) (timed : IsProper b) (kept : Kept (still b now) s) where
   stated-kept : (core r : ℕ) → running_on s core ≡ Some r → KeptDid b (statement_did b s core r)
   stated-kept core r runs = (now, by_lock (is_preemptible s core r)) where
     by_lock : (c : Bool) → Kept (still b now) (statement_effect b r core (if c then without_mark s r else s)).state

@@ -3,6 +3,7 @@ use Rattle.std.proofs.Common.{◌≡◌, ◌≢◌, ◌⊎◌, inl, inr, leb, le
 use Rattle.std.specs.List.{AllByRecursion}
 use Rattle.std.proofs.lemmas.List.Recursion.{is_count_by}
 use Rattle.rt_plain.specs.State.{is_number, is_among}
+use Rattle.rt_plain.proofs.TestLemmas.{some-is}
 
 -- 1 where the test holds
 abbrev pub one_if : Bool → ℕ
@@ -42,6 +43,21 @@ tally-filter p q (x ∷ xs) = by_test (q x) (tally-filter p q xs) where
   by_test : (c : Bool) → tally p (filter q xs) ≤ tally p xs → tally p (cond c (x ∷ filter q xs) (filter q xs)) ≤ one_if (p x) + tally p xs
   by_test true le = omega (arith, le)
   by_test false le = omega (arith, le)
+
+pub tally-length : {X : Type 0} (p : X → Bool) (xs : List X) → tally p xs ≤ length xs
+tally-length p [] = omega arith
+tally-length p (x ∷ xs) = by_test (p x) (tally-length p xs) where
+  by_test : (c : Bool) → tally p xs ≤ length xs → one_if c + tally p xs ≤ suc (length xs)
+  by_test true le = omega (arith, le)
+  by_test false le = omega (arith, le)
+
+-- what passes is left out
+pub tally-dropped : {X : Type 0} (p : X → Bool) (xs : List X) → tally p (filter (λ x. not (p x)) xs) ≡ 0
+tally-dropped p [] = refl
+tally-dropped p (x ∷ xs) = by_test (p x) refl (tally-dropped p xs) where
+  by_test : (c : Bool) → p x ≡ c → tally p (filter (λ y. not (p y)) xs) ≡ 0 → tally p (cond (not c) (x ∷ filter (λ y. not (p y)) xs) (filter (λ y. not (p y)) xs)) ≡ 0
+  by_test true is none = none
+  by_test false is none = rw is (omega (arith, none))
 
 -- a number is taken out of a list
 pub tally-without_same : (t : ℕ) (xs : List ℕ) → tally (λ u. eqb u t) (filter (λ u. not (eqb u t)) xs) ≡ 0
@@ -131,6 +147,10 @@ pub all-weaker : {X : Type 0} (P Q : X → Type 0) (xs : List X) → ((x : X) �
 all-weaker P Q [] step all = tt
 all-weaker P Q (x ∷ xs) step all = (step x all.0, all-weaker P Q xs step all.1)
 
+pub all-both : {X : Type 0} (P Q R : X → Type 0) (xs : List X) → ((x : X) → P x → Q x → R x) → AllByRecursion P xs → AllByRecursion Q xs → AllByRecursion R xs
+all-both P Q R [] step one other = tt
+all-both P Q R (x ∷ xs) step one other = (step x one.0 other.0, all-both P Q R xs step one.1 other.1)
+
 pub all-filter : {X : Type 0} (P : X → Type 0) (q : X → Bool) (xs : List X) → AllByRecursion P xs → AllByRecursion P (filter q xs)
 all-filter P q [] all = tt
 all-filter P q (x ∷ xs) all = by_test (q x) (all-filter P q xs all.1) where
@@ -157,11 +177,8 @@ all-map P f (x ∷ xs) all = (all.0, all-map P f xs all.1)
 pub all-found : {X : Type 0} (P : X → Type 0) (q : X → Bool) (xs : List X) (x : X) → find q xs ≡ Some x → AllByRecursion P xs → P x
 all-found P q [] x is all = absurd cc
 all-found P q (y ∷ ys) x is all = by_test (q y) is (λ more. all-found P q ys x more all.1) where
-  same : {A : Type 0} (a b : A) → Some a ≡ Some b → a ≡ b
-  same a b e = cc
-
   by_test : (c : Bool) → cond c (Some y) (find q ys) ≡ Some x → (find q ys ≡ Some x → P x) → P x
-  by_test true is more = subst P (same y x is) all.0
+  by_test true is more = subst P (some-is y x is) all.0
   by_test false is more = more is
 
 pub all-at : {X : Type 0} (P : X → Type 0) (xs : List X) (i : ℕ) (d : X) → P d → AllByRecursion P xs → P (slice_index_or xs i d)

@@ -2,6 +2,7 @@
 use Rattle.std.proofs.Common.{◌≡◌, ◌≢◌, ◌+◌, ◌-◌, ◌≤◌, ◌∷◌, [], ℕ, zero, suc, List, Option, Some, None, Bool, true, false, not, cond, length, eqb, nat_lt, refl, sym, ap, ◌∙◌, subst, arith, eq-eqb, filter, if◌then◌else◌}
 use Rattle.std.specs.List.{AllByRecursion, fold}
 use Rattle.std.proofs.lemmas.Slice.Eq.{bytes_eq-Decides}
+use Rattle.rt_base.specs.declared.codes.Halt.{Halt}
 use Rattle.rt_plain.specs.declared.board.TimerKind.{TimerKind}
 use Rattle.rt_plain.specs.declared.stmt.Stmt.{Stmt}
 use Rattle.rt_plain.specs.PlainBoard.{PlainBoard}
@@ -13,11 +14,12 @@ use Rattle.rt_plain.specs.DeviceCalls.{find_device, with_device, console_waiter,
 use Rattle.rt_plain.specs.Due.{put_by_number, by_number, due, timeout_code, timeout_effect, with_period, timer_effect, fired_timer_effect, alarm_effect, fired_row_effect, due_rows_effect}
 use Rattle.rt_plain.specs.Ticks.{thread_after_slice, with_slice_used, next_tick_state, alarms_effect, arrivals_now, deliveries, transmissions, with_until_halt, tick_effect}
 use Rattle.rt_plain.specs.Sound.{is_timed_action, is_waiting}
-use Rattle.rt_plain.proofs.TallyLemmas.{one_if, tally, tally-filter, all-passing}
-use Rattle.rt_plain.proofs.Invariant.{Frame, Kept, IsFineThread, IsFineTimer, IsWaited, IsRowKept, fine-at, thread-kept, without_alarm-kept}
+use Rattle.rt_plain.proofs.TallyLemmas.{one_if, tally, tally-filter, all-passing, all-both}
+use Rattle.rt_plain.proofs.Invariant.{Frame, Kept, is_owned, IsFineThread, IsFineTimer, IsWaited, IsRowKept, fine-at, thread-kept, without_alarm-kept}
 use Rattle.rt_plain.proofs.WakeLemmas.{wake-kept, retry_wake-kept, console-waiter-waits, each-kept, for-kept}
-use Rattle.rt_plain.proofs.ObjectLemmas.{armed-kept, found-timer, outcome-kept, sem_release-kept}
-use Rattle.rt_plain.proofs.StatementLemmas.{if-effect, if-state, settled-kept}
+use Rattle.rt_plain.proofs.ObjectLemmas.{armed-kept, found-owner, found-timer, outcome-kept, sem_release-kept}
+use Rattle.rt_plain.proofs.StatementLemmas.{if-effect, settled-kept}
+use Rattle.std.proofs.lemmas.Bool.{eqb-false}
 
 -- the same frame with fewer due rows
 abbrev pub with_few : Frame → ℕ → Frame
@@ -26,11 +28,15 @@ with_few f few = record f { few = few }
 pub few-kept : (f : Frame) (n : ℕ) (s : State) → tally (λ (row : ArmedRow Alarm). eqb row.due f.now) s.armed ≤ n → Kept f s → Kept (with_few f n) s
 few-kept f n s few kept = record {
   tick_is = kept.tick_is;
+  live = kept.live;
+  ends = kept.ends;
   count = kept.count;
   cores = kept.cores;
   placed = kept.placed;
   rows = kept.rows;
   due_few = few;
+  single = kept.single;
+  owned = kept.owned;
   fine = kept.fine;
   nest_runs = kept.nest_runs;
   timers_fine = kept.timers_fine;
@@ -41,7 +47,7 @@ alarm-same (OfThread t) = eq-eqb t t refl
 alarm-same (OfTimer name) = (bytes_eq-Decides name name).1 refl
 
 -- dropping the rows of a due row's alarm leaves fewer due rows
-abbrev DropsOne : ℕ → List (ArmedRow Alarm) → ArmedRow Alarm → Type 0
+abbrev pub DropsOne : ℕ → List (ArmedRow Alarm) → ArmedRow Alarm → Type 0
 DropsOne now armed row = tally (λ (r : ArmedRow Alarm). eqb r.due now) (filter (λ (r : ArmedRow Alarm). not (is_alarm row.alarm r.alarm)) armed) + 1 ≤ tally (λ (r : ArmedRow Alarm). eqb r.due now) armed
 
 drops-one : (now : ℕ) (armed : List (ArmedRow Alarm)) → AllByRecursion (λ row. eqb row.due now ≡ true → DropsOne now armed row) armed
@@ -61,9 +67,9 @@ drops-one now (x ∷ xs) = (here, more xs (drops-one now xs)) where
   more (y ∷ ys) all = (λ is. kept y (all.0 is), more ys all.1)
 
 -- a row that is due: it is dropped with its alarm's rows, and its thread waits
-record IsDueRow (now : ℕ) (threads : List Thread) (armed : List (ArmedRow Alarm)) (row : ArmedRow Alarm) : Type 0 where
-  waits : IsWaited threads row.alarm
-  drops : DropsOne now armed row
+pub record IsDueRow (now : ℕ) (threads : List Thread) (armed : List (ArmedRow Alarm)) (row : ArmedRow Alarm) : Type 0 where
+  pub waits : IsWaited threads row.alarm
+  pub drops : DropsOne now armed row
 
 put-all : {A : Type 0} (P : ArmedRow A → Type 0) (row : ArmedRow A) (rows : List (ArmedRow A)) → P row → AllByRecursion P rows → AllByRecursion P (put_by_number row rows)
 put-all P row [] here all = (here, tt)
@@ -87,32 +93,28 @@ number-length : {A : Type 0} (rows : List (ArmedRow A)) → length (by_number ro
 number-length [] = refl
 number-length (row ∷ rows) = put-length row (by_number rows) ∙ ap suc (number-length rows)
 
-filter-length : {A : Type 0} (p : A → Bool) (xs : List A) → length (filter p xs) ≡ tally p xs
+pub filter-length : {A : Type 0} (p : A → Bool) (xs : List A) → length (filter p xs) ≡ tally p xs
 filter-length p [] = refl
 filter-length p (x ∷ xs) = by_test (p x) (filter-length p xs) where
   by_test : (c : Bool) → length (filter p xs) ≡ tally p xs → length (cond c (x ∷ filter p xs) (filter p xs)) ≡ one_if c + tally p xs
   by_test true same = omega (arith, same)
   by_test false same = omega (arith, same)
 
-due-length : (f : Frame) (s : State) → Kept f s → length (due s) ≡ tally (λ (row : ArmedRow Alarm). eqb row.due f.now) s.armed
+pub due-length : (f : Frame) (s : State) → Kept f s → length (due s) ≡ tally (λ (row : ArmedRow Alarm). eqb row.due f.now) s.armed
 due-length f s kept = number-length (filter (λ row. eqb row.due s.tick) s.armed) ∙ filter-length (λ row. eqb row.due s.tick) s.armed ∙ ap (λ now. tally (λ (row : ArmedRow Alarm). eqb row.due now) s.armed) kept.tick_is
 
-both-all : {A : Type 0} (P Q R : A → Type 0) (xs : List A) → ((x : A) → P x → Q x → R x) → AllByRecursion P xs → AllByRecursion Q xs → AllByRecursion R xs
-both-all P Q R [] step one other = tt
-both-all P Q R (x ∷ xs) step one other = (step x one.0 other.0, both-all P Q R xs step one.1 other.1)
-
-due-rows : (f : Frame) (s : State) → Kept f s → AllByRecursion (IsDueRow f.now s.threads s.armed) (due s)
+pub due-rows : (f : Frame) (s : State) → Kept f s → AllByRecursion (IsDueRow f.now s.threads s.armed) (due s)
 due-rows f s kept = number-all (IsDueRow f.now s.threads s.armed) (filter (λ (row : ArmedRow Alarm). eqb row.due s.tick) s.armed)
     (all-passing (λ row. eqb row.due f.now ≡ true → IsDueRow f.now s.threads s.armed row) (IsDueRow f.now s.threads s.armed) (λ (row : ArmedRow Alarm). eqb row.due s.tick) s.armed (λ row passes is. is (ap (eqb row.due) (sym kept.tick_is) ∙ passes))
-    (both-all (IsRowKept f.low s.threads) (λ row. eqb row.due f.now ≡ true → DropsOne f.now s.armed row) _ s.armed (λ row held drops is. record { waits = held.1; drops = drops is }) kept.rows (drops-one f.now s.armed)))
+    (all-both (IsRowKept f.low s.threads) (λ row. eqb row.due f.now ≡ true → DropsOne f.now s.armed row) _ s.armed (λ row held drops is. record { waits = held.1; drops = drops is }) kept.rows (drops-one f.now s.armed)))
 
 -- a due row fires
 timed-out : (f : Frame) (s : State) (t : ℕ) → is_waiting (thread_at s t).stage ≡ true → Kept f s → Kept f (timeout_effect t s).state
 timed-out f s t waits kept = wake-kept f s (timeout_code (thread_at s t).stage) t waits kept
 
-period-kept : (f : Frame) (s : State) (kind : TimerKind) (timer : Timer) → IsFineTimer timer → Kept f s → Kept f (with_period kind timer s)
-period-kept f s TimerKind.OneShot timer fine kept = kept
-period-kept f s TimerKind.Periodic timer fine kept = armed-kept f s timer fine kept
+period-kept : (f : Frame) (s : State) (kind : TimerKind) (timer : Timer) → IsFineTimer timer → is_owned s.timers (OfTimer timer.name) ≡ true → Kept f s → Kept f (with_period kind timer s)
+period-kept f s TimerKind.OneShot timer fine owner kept = kept
+period-kept f s TimerKind.Periodic timer fine owner kept = armed-kept f s timer fine owner kept
 
 action-kept : (f : Frame) (s : State) (name : List ℕ) (action : Option Stmt) → is_timed_action action ≡ true → Kept f s → Kept f (timer_effect f.board name action s).state
 action-kept f s name None timed kept = kept
@@ -120,15 +122,15 @@ action-kept f s name (Some (Stmt.Print text)) timed kept = kept
 action-kept f s name (Some (Stmt.Do call)) timed kept = outcome-kept f f.board s call (ByTimer name) First timed tt kept
 action-kept f s name (Some _) timed kept = kept
 
-fired-kept : (f : Frame) (s : State) (o : Option Timer) → ((timer : Timer) → o ≡ Some timer → IsFineTimer timer) → Kept f s → Kept f (fired_timer_effect f.board o s).state
+fired-kept : (f : Frame) (s : State) (o : Option Timer) → ((timer : Timer) → o ≡ Some timer → IsFineTimer timer × (is_owned s.timers (OfTimer timer.name) ≡ true)) → Kept f s → Kept f (fired_timer_effect f.board o s).state
 fired-kept f s None fine kept = kept
-fired-kept f s (Some timer) fine kept = action-kept f (with_period timer.kind timer s) timer.name timer.call (fine timer refl).1 (period-kept f s timer.kind timer (fine timer refl) kept)
+fired-kept f s (Some timer) fine kept = action-kept f (with_period timer.kind timer s) timer.name timer.call (fine timer refl).0.1 (period-kept f s timer.kind timer (fine timer refl).0 (fine timer refl).1 kept)
 
 alarm-kept : (f : Frame) (s : State) (alarm : Alarm) → IsWaited s.threads alarm → Kept f s → Kept f (alarm_effect f.board alarm s).state
 alarm-kept f s (OfThread t) waits kept = timed-out f s t waits kept
-alarm-kept f s (OfTimer name) waits kept = fired-kept f s (find_timer s name) (λ timer is. found-timer f s name timer is kept) kept
+alarm-kept f s (OfTimer name) waits kept = fired-kept f s (find_timer s name) (λ timer is. (found-timer f s name timer is kept, found-owner s name timer is)) kept
 
-row-kept : (f : Frame) (n : ℕ) (s : State) (row : ArmedRow Alarm) → IsDueRow f.now s.threads s.armed row → tally (λ (r : ArmedRow Alarm). eqb r.due f.now) s.armed ≤ suc n → Kept f s → Kept (with_few f n) (fired_row_effect f.board row s).state
+pub row-kept : (f : Frame) (n : ℕ) (s : State) (row : ArmedRow Alarm) → IsDueRow f.now s.threads s.armed row → tally (λ (r : ArmedRow Alarm). eqb r.due f.now) s.armed ≤ suc n → Kept f s → Kept (with_few f n) (fired_row_effect f.board row s).state
 row-kept f n s row is few kept = settled-kept (with_few f n) s (alarm_effect f.board row.alarm (without_alarm s row.alarm)) (alarm-kept (with_few f n) (without_alarm s row.alarm) row.alarm is.waits
     (few-kept f n (without_alarm s row.alarm) (omega (arith, is.drops, few)) (without_alarm-kept f s row.alarm kept)))
 
@@ -149,35 +151,43 @@ less-fits n = omega arith
 
 -- between events: nothing is due any more
 abbrev pub still : PlainBoard → ℕ → Frame
-still b now = record { board = b; now = now; low = now + 1; few = 0; fits = same-fits now }
+still b now = record { board = b; now = now; low = now + 1; few = 0; latest = b.until - 1; fits = same-fits now }
+
+-- within a tick: nothing is due any more, and the machine may halt yet
+abbrev pub fired : PlainBoard → ℕ → Frame
+fired b now = record { board = b; now = now; low = now + 1; few = 0; latest = b.until; fits = same-fits now }
 
 -- the next tick: what is due now may fire
 abbrev pub firing : PlainBoard → ℕ → ℕ → Frame
-firing b now few = record { board = b; now = now; low = now; few = few; fits = less-fits now }
+firing b now few = record { board = b; now = now; low = now; few = few; latest = b.until; fits = less-fits now }
 
 -- the tick rises, and what is armed may be due now
 risen-kept : (b : PlainBoard) (now : ℕ) (s : State) → Kept (still b now) s → Kept (firing b (now + 1) (tally (λ (row : ArmedRow Alarm). eqb row.due (now + 1)) s.armed)) (record s { tick = s.tick + 1 })
 risen-kept b now s kept = record {
   tick_is = ap (λ n. n + 1) kept.tick_is;
+  live = λ some on. omega (arith, some, kept.live some on);
+  ends = kept.ends;
   count = kept.count;
   cores = kept.cores;
   placed = kept.placed;
   rows = kept.rows;
   due_few = omega arith;
+  single = kept.single;
+  owned = kept.owned;
   fine = kept.fine;
   nest_runs = kept.nest_runs;
   timers_fine = kept.timers_fine;
 }
 
-slice-fine : (row : Thread) → ((thread_after_slice row).stage ≡ row.stage) × (IsFineThread row → IsFineThread (thread_after_slice row))
-slice-fine row = by_test (eqb (row.left - 1) 0) where
-  by_test : (c : Bool) → let new : Thread = if c then record row { left = row.slice; marked = true } else record row { left = row.left - 1 } in (new.stage ≡ row.stage) × (IsFineThread row → IsFineThread new)
+pub slice-fine : (b : PlainBoard) (row : Thread) → ((thread_after_slice row).stage ≡ row.stage) × (IsFineThread b row → IsFineThread b (thread_after_slice row))
+slice-fine b row = by_test (eqb (row.left - 1) 0) where
+  by_test : (c : Bool) → let new : Thread = if c then record row { left = row.slice; marked = true } else record row { left = row.left - 1 } in (new.stage ≡ row.stage) × (IsFineThread b row → IsFineThread b new)
   by_test true = (refl, λ fine. fine)
   by_test false = (refl, λ fine. fine)
 
 used-kept : (f : Frame) (s : State) (r : Option ℕ) → Kept f s → Kept f (with_slice_used s r)
 used-kept f s None kept = kept
-used-kept f s (Some t) kept = thread-kept f s t (thread_after_slice (thread_at s t)) (slice-fine (thread_at s t)).0 ((slice-fine (thread_at s t)).1 (fine-at f s t kept)) kept
+used-kept f s (Some t) kept = thread-kept f s t (thread_after_slice (thread_at s t)) (slice-fine f.board (thread_at s t)).0 ((slice-fine f.board (thread_at s t)).1 (fine-at f s t kept)) kept
 
 pub fold-kept : (f : Frame) {A : Type 0} (step : State → A → State) → ((s : State) (x : A) → Kept f s → Kept f (step s x)) → (xs : List A) (s : State) → Kept f s → Kept f (fold step s xs)
 fold-kept f step keeps [] s kept = kept
@@ -188,7 +198,7 @@ fold-armed [] s = refl
 fold-armed (None ∷ xs) s = fold-armed xs s
 fold-armed (Some t ∷ xs) s = fold-armed xs (with_slice_used s (Some t))
 
-next-kept : (b : PlainBoard) (now : ℕ) (s : State) → Kept (still b now) s → Kept (firing b (now + 1) (tally (λ (row : ArmedRow Alarm). eqb row.due (now + 1)) (next_tick_state s).armed)) (next_tick_state s)
+pub next-kept : (b : PlainBoard) (now : ℕ) (s : State) → Kept (still b now) s → Kept (firing b (now + 1) (tally (λ (row : ArmedRow Alarm). eqb row.due (now + 1)) (next_tick_state s).armed)) (next_tick_state s)
 next-kept b now s kept = subst (λ (armed : List (ArmedRow Alarm)). Kept (firing b (now + 1) (tally (λ (row : ArmedRow Alarm). eqb row.due (now + 1)) armed)) (next_tick_state s)) (sym (fold-armed s.running (record s { tick = s.tick + 1 })))
     (fold-kept (firing b (now + 1) (tally (λ (row : ArmedRow Alarm). eqb row.due (now + 1)) s.armed)) with_slice_used (used-kept _) s.running (record s { tick = s.tick + 1 }) (risen-kept b now s kept))
 
@@ -202,20 +212,24 @@ rows-later now threads (row ∷ rows) none all = ((later, all.0.1), rows-later n
   later : now + 1 ≤ row.due
   later = omega (arith, all.0.0, apart)
 
-settled-still : (b : PlainBoard) (now : ℕ) (s : State) → Kept (with_few (firing b now 0) 0) s → Kept (still b now) s
+settled-still : (b : PlainBoard) (now : ℕ) (s : State) → Kept (with_few (firing b now 0) 0) s → Kept (fired b now) s
 settled-still b now s kept = record {
   tick_is = kept.tick_is;
+  live = kept.live;
+  ends = kept.ends;
   count = kept.count;
   cores = kept.cores;
   placed = kept.placed;
   rows = rows-later now s.threads s.armed kept.due_few kept.rows;
   due_few = kept.due_few;
+  single = kept.single;
+  owned = kept.owned;
   fine = kept.fine;
   nest_runs = kept.nest_runs;
   timers_fine = kept.timers_fine;
 }
 
-alarms-kept : (b : PlainBoard) (now : ℕ) (s : State) → Kept (still b now) s → Kept (still b (now + 1)) (alarms_effect b (next_tick_state s)).state
+pub alarms-kept : (b : PlainBoard) (now : ℕ) (s : State) → Kept (still b now) s → Kept (fired b (now + 1)) (alarms_effect b (next_tick_state s)).state
 alarms-kept b now s kept =
     let few : ℕ = tally (λ (row : ArmedRow Alarm). eqb row.due (now + 1)) (next_tick_state s).armed in
     let risen : Kept (firing b (now + 1) few) (next_tick_state s) = next-kept b now s kept in
@@ -234,7 +248,7 @@ arrived-kept : (f : Frame) (s : State) (o : Option Device) (text : List ℕ) →
 arrived-kept f s None text kept = kept
 arrived-kept f s (Some device) text kept = noticed-kept f (with_device s (record device { rx = ring_after device text })) device kept
 
-delivered-kept : (f : Frame) (s : State) → Kept f s → Kept f (deliveries s).state
+pub delivered-kept : (f : Frame) (s : State) → Kept f s → Kept f (deliveries s).state
 delivered-kept f s kept = each-kept f arrival_effect (λ arrival u k. arrived-kept f u (find_device u arrival.device) arrival.text k) (arrivals_now s) _ kept
 
 sent-kept : (f : Frame) (s : State) (device : Device) → Kept f s → Kept f (sent device s).state
@@ -243,11 +257,44 @@ sent-kept f s device kept = if-effect f (is_sending device) _ _ (λ is. kept) (�
 transmitted-kept : (f : Frame) (s : State) → Kept f s → Kept f (transmissions s).state
 transmitted-kept f s kept = each-kept f sent (λ device u k. sent-kept f u device k) (registered_devices s) s kept
 
-until-kept : (f : Frame) (b : PlainBoard) (s : State) → Kept f s → Kept f (with_until_halt b s)
-until-kept f b s kept = if-state f (eqb s.tick b.until) _ s kept kept
+until-kept : (b : PlainBoard) (now : ℕ) (s : State) → Kept (fired b now) s → Kept (still b now) (with_until_halt b s)
+until-kept b now s kept = by_test (eqb s.tick b.until) refl where
+  by_test : (c : Bool) → eqb s.tick b.until ≡ c → Kept (still b now) (if c then record s { halt = Some Halt.Until } else s)
+  by_test true last = record {
+    tick_is = kept.tick_is;
+    live = λ some on. absurd cc;
+    ends = λ halt is. until halt is;
+    count = kept.count;
+    cores = kept.cores;
+    placed = kept.placed;
+    rows = kept.rows;
+    due_few = kept.due_few;
+    single = kept.single;
+    owned = kept.owned;
+    fine = kept.fine;
+    nest_runs = kept.nest_runs;
+    timers_fine = kept.timers_fine;
+  } where
+    until : (halt : Halt) → Some Halt.Until ≡ Some halt → halt ≡ Halt.Until
+    until halt is = cc
+  by_test false later = record {
+    tick_is = kept.tick_is;
+    live = λ some on. let apart : s.tick ≢ b.until = eqb-false s.tick b.until later in omega (arith, kept.live some on, apart);
+    ends = kept.ends;
+    count = kept.count;
+    cores = kept.cores;
+    placed = kept.placed;
+    rows = kept.rows;
+    due_few = kept.due_few;
+    single = kept.single;
+    owned = kept.owned;
+    fine = kept.fine;
+    nest_runs = kept.nest_runs;
+    timers_fine = kept.timers_fine;
+  }
 
 -- a tick
 pub tick-kept : (b : PlainBoard) (now : ℕ) (s : State) → Kept (still b now) s → Kept (still b (now + 1)) (tick_effect b s).state
 tick-kept b now s kept =
-    let fired : State = (alarms_effect b (next_tick_state s)).state in
-    until-kept (still b (now + 1)) b (transmissions (deliveries fired).state).state (transmitted-kept (still b (now + 1)) (deliveries fired).state (delivered-kept (still b (now + 1)) fired (alarms-kept b now s kept)))
+    let rung : State = (alarms_effect b (next_tick_state s)).state in
+    until-kept b (now + 1) (transmissions (deliveries rung).state).state (transmitted-kept (fired b (now + 1)) (deliveries rung).state (delivered-kept (fired b (now + 1)) rung (alarms-kept b now s kept)))

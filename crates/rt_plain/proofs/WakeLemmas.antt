@@ -1,6 +1,6 @@
 -- Who waits on an object, and that waking and ending threads keeps what holds.
 use Rattle.std.proofs.Common.{◌≡◌, ◌≢◌, ◌+◌, ◌≤◌, ◌∷◌, [], ℕ, zero, suc, List, Option, Some, None, Bool, true, false, is_some, cond, length, refl, sym, ap, ◌∙◌, subst, arith, slice_set, map, if◌then◌else◌, filter_map}
-use Rattle.std.specs.List.{AllByRecursion, range_with_len, find}
+use Rattle.std.specs.List.{AllByRecursion, range_with_len, find, cons_option}
 use Rattle.rt_base.specs.declared.codes.Code.{Code}
 use Rattle.rt_base.specs.declared.codes.WaitOrder.{WaitOrder}
 use Rattle.rt_plain.specs.declared.stmt.Call.{Call}
@@ -12,6 +12,7 @@ use Rattle.rt_plain.specs.DeviceCalls.{waits_at_console, console_waiter}
 use Rattle.rt_plain.specs.Sound.{is_waiting}
 use Rattle.rt_plain.proofs.TallyLemmas.{all-weaker, all-map, same-set, other-set}
 use Rattle.rt_plain.proofs.Invariant.{Frame, Kept, stage_at, is_fine_stage, is_fine_retry, fine-at, thread-kept, waiting-open, waiting-inactive, active-kept, withdrawn-kept}
+use Rattle.rt_plain.proofs.TestLemmas.{some-is}
 
 -- a thread that waits wakes with a code
 pub wake-kept : (f : Frame) (s : State) (code : Code) (t : ℕ) → is_waiting (thread_at s t).stage ≡ true → Kept f s → Kept f (wake_effect code t s).state
@@ -28,7 +29,7 @@ retry-fine _ due fine = refl
 
 -- a thread that waits wakes to make its call again
 pub retry_wake-kept : (f : Frame) (s : State) (t : ℕ) → is_waiting (thread_at s t).stage ≡ true → Kept f s → Kept f (retry_wake_effect t s).state
-retry_wake-kept f s t waits kept = active-kept f told t (waiting-inactive (thread_at told t).stage still) (waiting-open (thread_at told t).stage still) (thread-kept f s t row refl ((fine-at f s t kept).0, retry-fine (thread_at s t).stage (due_of s (OfThread t)) (fine-at f s t kept).0) kept) where
+retry_wake-kept f s t waits kept = active-kept f told t (waiting-inactive (thread_at told t).stage still) (waiting-open (thread_at told t).stage still) (thread-kept f s t row refl ((fine-at f s t kept).0, retry-fine (thread_at s t).stage (due_of s (OfThread t)) (fine-at f s t kept).0, (fine-at f s t kept).2) kept) where
   row : Thread
   row = record (thread_at s t) { retry = retry_of (thread_at s t).stage (due_of s (OfThread t)) }
 
@@ -61,7 +62,7 @@ rows-listed s in_list (t ∷ ts) = by_number (number_in in_list (thread_at s t).
   more : List Waiter
   more = filter_map (λ t. waiter_of s t (number_in in_list (thread_at s t).stage)) ts
 
-  by_number : (o : Option ℕ) → number_in in_list (thread_at s t).stage ≡ o → AllByRecursion (λ (w : Waiter). IsListed in_list s.threads w.thread) more → AllByRecursion (λ (w : Waiter). IsListed in_list s.threads w.thread) (Rattle.std.specs.List.cons_option (waiter_of s t o) more)
+  by_number : (o : Option ℕ) → number_in in_list (thread_at s t).stage ≡ o → AllByRecursion (λ (w : Waiter). IsListed in_list s.threads w.thread) more → AllByRecursion (λ (w : Waiter). IsListed in_list s.threads w.thread) (cons_option (waiter_of s t o) more)
   by_number None is all = all
   by_number (Some number) is all = (ap is_some is, all)
 
@@ -71,7 +72,7 @@ rows-from s in_list a (suc n) = by_number (number_in in_list (thread_at s a).sta
   more : List Waiter
   more = filter_map (λ t. waiter_of s t (number_in in_list (thread_at s t).stage)) (range_with_len (a + 1) n)
 
-  by_number : (o : Option ℕ) → AllByRecursion (λ (w : Waiter). a ≤ w.thread) more → AllByRecursion (λ (w : Waiter). a ≤ w.thread) (Rattle.std.specs.List.cons_option (waiter_of s a o) more)
+  by_number : (o : Option ℕ) → AllByRecursion (λ (w : Waiter). a ≤ w.thread) more → AllByRecursion (λ (w : Waiter). a ≤ w.thread) (cons_option (waiter_of s a o) more)
   by_number None all = all
   by_number (Some number) all = (omega arith, all)
 
@@ -81,7 +82,7 @@ rows-apart s in_list a (suc n) = by_number (number_in in_list (thread_at s a).st
   more : List Waiter
   more = filter_map (λ t. waiter_of s t (number_in in_list (thread_at s t).stage)) (range_with_len (a + 1) n)
 
-  by_number : (o : Option ℕ) → AllByRecursion (λ (w : Waiter). w.thread ≢ a) more → AllApart (λ (w : Waiter). w.thread) more → AllApart (λ (w : Waiter). w.thread) (Rattle.std.specs.List.cons_option (waiter_of s a o) more)
+  by_number : (o : Option ℕ) → AllByRecursion (λ (w : Waiter). w.thread ≢ a) more → AllApart (λ (w : Waiter). w.thread) more → AllApart (λ (w : Waiter). w.thread) (cons_option (waiter_of s a o) more)
   by_number None off all = all
   by_number (Some number) off all = (off, all)
 
@@ -124,9 +125,7 @@ waiters-wait s order in_list = all-weaker (IsListed in_list s.threads) (λ t. is
 
 head-all : (P : ℕ → Type 0) (ts : List ℕ) (t : ℕ) → head_of ts ≡ Some t → AllByRecursion P ts → P t
 head-all P [] t is all = absurd cc
-head-all P (u ∷ us) t is all = subst P (same u t is) all.0 where
-  same : (a b : ℕ) → Some a ≡ Some b → a ≡ b
-  same a b e = cc
+head-all P (u ∷ us) t is all = subst P (some-is u t is) all.0
 
 -- the first waiter waits
 pub first-waits : (s : State) (order : WaitOrder) (in_list : Call → Bool) (t : ℕ) → first_waiter s order in_list ≡ Some t → is_waiting (thread_at s t).stage ≡ true
@@ -139,11 +138,8 @@ console-waits _ is = absurd cc
 found-passes : {X : Type 0} (q : X → Bool) (xs : List X) (x : X) → find q xs ≡ Some x → q x ≡ true
 found-passes q [] x is = absurd cc
 found-passes q (y ∷ ys) x is = by_test (q y) refl is (found-passes q ys x) where
-  same : {A : Type 0} (a b : A) → Some a ≡ Some b → a ≡ b
-  same a b e = cc
-
   by_test : (c : Bool) → q y ≡ c → cond c (Some y) (find q ys) ≡ Some x → (find q ys ≡ Some x → q x ≡ true) → q x ≡ true
-  by_test true passes is more = subst (λ z. q z ≡ true) (same y x is) passes
+  by_test true passes is more = subst (λ z. q z ≡ true) (some-is y x is) passes
   by_test false passes is more = more is
 
 pub console-waiter-waits : (s : State) (t : ℕ) → console_waiter s ≡ Some t → is_waiting (thread_at s t).stage ≡ true

@@ -36,9 +36,15 @@ pub mod Weight
 pub mod Live
 pub mod Replays
 pub mod Logs
+pub mod Splits
+pub mod Fields
+pub mod FieldLists
+pub mod StatementTable
+pub mod Tails
+pub mod LineTable
+pub mod BoardText
 pub mod Canon
 pub mod Generated
 pub mod Commands
 pub mod Sound
 pub mod Tickless
-pub mod IsBoard

@@ -188,4 +188,8 @@ impl Model for Board {
     ghost Value = { PlainBoard };
 
     ghost view = { λ b. record { cores = b.cores; levels = b.levels; tickless = b.tickless; until = b.until; entries = b.entries; lpmax = b.lpmax; thresh = b.thresh; default_mode = b.default_mode; schedule = b.schedule; shell = b.shell; limits = b.limits; sems = b.sems; events = b.events; mutexes = b.mutexes; mailboxes = b.mailboxes; queues = b.queues; devices = b.devices; timers = b.timers; threads = b.threads; arrivals = b.arrivals } };
+
+    ghost use Rattle.rt_plain.specs.Canon.{IsValid};
+
+    ghost invariant = { λ b. IsValid (record { cores = b.cores; levels = b.levels; tickless = b.tickless; until = b.until; entries = b.entries; lpmax = b.lpmax; thresh = b.thresh; default_mode = b.default_mode; schedule = b.schedule; shell = b.shell; limits = b.limits; sems = b.sems; events = b.events; mutexes = b.mutexes; mailboxes = b.mailboxes; queues = b.queues; devices = b.devices; timers = b.timers; threads = b.threads; arrivals = b.arrivals }) };
 }

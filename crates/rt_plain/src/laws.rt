@@ -1,18 +1,38 @@
 //! Laws of the plain definitions: each is the contract of a function that does nothing.
-ghost use Rattle.std.specs.Prelude.{◌≡◌, ◌≤◌, ℕ, List, [], Bool, true, Some, None};
+ghost use Rattle.std.specs.Prelude.{◌≡◌, ◌≤◌, ◌<◌, ◌+◌, ◌*◌, ℕ, List, [], Bool, true, false, Option, Some, None, length, All, IsTrue};
+ghost use Rattle.rt_base.specs.declared.codes.Event.{Event};
 ghost use Rattle.rt_base.specs.declared.codes.Halt.{Halt};
+ghost use Rattle.rt_plain.specs.declared.board.Arrival.{Arrival};
 ghost use Rattle.rt_plain.specs.declared.entry.Entry.{Entry};
+ghost use Rattle.rt_plain.specs.declared.line.Line.{Line};
 ghost use Rattle.rt_plain.specs.PlainBoard.{PlainBoard};
-ghost use Rattle.rt_plain.specs.State.{State};
+ghost use Rattle.rt_plain.specs.BoardText.{IsBoard, first_bad};
+ghost use Rattle.rt_plain.specs.Canon.{IsValid, canonical_text};
+ghost use Rattle.rt_plain.specs.State.{State, Retry, Alarm, ArmedRow};
 ghost use Rattle.rt_plain.specs.Opening.{open_state};
-ghost use Rattle.rt_plain.specs.Runs.{IsRun, IsRunIn, IsCompleteIn, events_of, is_over, is_over_in};
+ghost use Rattle.rt_plain.specs.Runs.{IsRun, IsRunIn, IsCompleteIn, events_of, is_over, is_over_in, room};
 ghost use Rattle.rt_plain.specs.Schedules.{IsDriveable, IsScheduled, scheduled_course, rounds_course};
-ghost use Rattle.rt_plain.specs.Sound.{IsTimed, IsSound};
+ghost use Rattle.rt_plain.specs.Effects.{no_effect};
+ghost use Rattle.rt_plain.specs.Owners.{close_effect};
+ghost use Rattle.rt_plain.specs.Calls.{settled_effect};
+ghost use Rattle.rt_plain.specs.Statements.{script_effect};
+ghost use Rattle.rt_plain.specs.Due.{fired_row_effect};
+ghost use Rattle.rt_plain.specs.DeviceCalls.{is_busy, arrival_effect};
+ghost use Rattle.rt_plain.specs.Sleeps.{Made, sleep_length, ticks};
+ghost use Rattle.rt_plain.specs.Steps.{happens, is_all_idle};
+ghost use Rattle.rt_plain.specs.Sound.{is_timer_action, IsProper, IsSized, IsSound, IsWaitedFor};
 
 /// Every state that a run reaches is sound.
 pub fn reached_states_are_sound()
     ensures { (b : PlainBoard) (journal : List Entry) (s : State) →
-        IsTimed b → IsRun b (open_state b) journal s → IsSound b s }
+        IsProper b → IsRun b (open_state b) journal s → IsSound b s }
+{}
+
+/// An event adds no more lines than the room of the board.
+pub fn lines_fit_the_room()
+    ensures { (b : PlainBoard) (journal : List Entry) (s new : State) (event : Event) (lines : List Line) →
+        IsProper b → IsSized b → IsRun b (open_state b) journal s →
+        happens b s event ≡ Made new lines → length lines ≤ room b }
 {}
 
 /// What the schedule of a board makes up to a halt is a complete run within the limit.
@@ -23,10 +43,10 @@ pub fn scheduled_runs_are_complete()
 
 /// The run by the schedule of a board stops: where it hasn't halted it meets a limit.
 pub fn scheduled_runs_stop()
-    ensures board { (b : PlainBoard) → IsDriveable b → IsTimed b →
+    ensures board { (b : PlainBoard) → IsDriveable b → IsProper b →
         (scheduled_course (is_over b) b).halt ≡ None →
         is_over b (scheduled_course (is_over b) b).journal ≡ true }
-    ensures within { (entries lines : ℕ) (b : PlainBoard) → IsDriveable b → IsTimed b →
+    ensures within { (entries lines : ℕ) (b : PlainBoard) → IsDriveable b → IsProper b →
         (scheduled_course (is_over_in entries lines b) b).halt ≡ None →
         is_over_in entries lines b (scheduled_course (is_over_in entries lines b) b).journal ≡ true }
 {}
@@ -39,7 +59,7 @@ pub fn runs_go_on_by_rounds()
         (rounds_course over b s journal).halt ≡ Some h →
         IsCompleteIn over b (rounds_course over b s journal).journal h (rounds_course over b s journal).state.tick }
     ensures stops { (b : PlainBoard) (journal : List Entry) (s : State) →
-        1 ≤ b.cores → IsTimed b → IsRunIn (is_over b) b [] (open_state b) journal s →
+        1 ≤ b.cores → IsProper b → IsRunIn (is_over b) b [] (open_state b) journal s →
         (rounds_course (is_over b) b s journal).halt ≡ None →
         is_over b (rounds_course (is_over b) b s journal).journal ≡ true }
 {}
@@ -61,4 +81,61 @@ pub fn events_determine_runs()
         (h k : Halt) (t u : ℕ) → events_of journal ≡ events_of entries →
         IsCompleteIn over b journal h t → IsCompleteIn within b entries k u →
         (journal ≡ entries) × (h ≡ k) × (t ≡ u) }
+{}
+
+/// No text is two boards.
+#[tactic(auto, using(crate::proofs::BoardLemmas::one_board))]
+pub fn texts_are_one_board()
+    ensures { (bytes : List ℕ) (a b : PlainBoard) → IsBoard bytes a → IsBoard bytes b → a ≡ b }
+{}
+
+/// A text has no first bad line exactly where it is one of a board.
+#[tactic(auto, using(crate::proofs::BoardLemmas::no_bad_line))]
+pub fn texts_without_a_bad_line_are_boards()
+    ensures { (bytes : List ℕ) →
+        (first_bad bytes ≡ None → (b : PlainBoard) × IsBoard bytes b)
+        × ((b : PlainBoard) → IsBoard bytes b → first_bad bytes ≡ None) }
+{}
+
+/// A statement of a script, and the end of a thread, show at most three lines for each thread, and
+/// four.
+pub fn statements_show_few_lines()
+    ensures statement { (b : PlainBoard) (s : State) (t core : ℕ) (retry : Option Retry) → IsSized b →
+        length (settled_effect b s (script_effect b t core retry s)).lines ≤ 3 * length s.threads + 4 }
+    ensures end { (b : PlainBoard) (s : State) (t : ℕ) →
+        length (settled_effect b s (close_effect t s)).lines ≤ 3 * length s.threads + 4 }
+{}
+
+/// An armed row that fires shows at most two lines for each thread, and four, where timers make
+/// only the calls that they may make; an arrival shows at most two lines.
+pub fn rows_and_arrivals_show_few_lines()
+    ensures row { (b : PlainBoard) (s : State) (row : ArmedRow Alarm) → IsSized b →
+        IsWaitedFor s row.alarm → All (λ timer. IsTrue (is_timer_action timer.call)) s.timers →
+        length (fired_row_effect b row s).lines ≤ 2 * length s.threads + 4 }
+    ensures arrival { (arrival : Arrival) (s : State) → length (arrival_effect arrival s).lines ≤ 2 }
+{}
+
+/// Each entry takes at most four times the room of numbers for waits and armed rows.
+pub fn numbers_stay_small()
+    ensures { (b : PlainBoard) (journal : List Entry) (s : State) →
+        IsProper b → IsSized b → IsRun b (open_state b) journal s →
+        s.numbers ≤ length b.timers + length journal * (4 * room b) }
+{}
+
+/// While a sleep lasts, each tick but its last one changes the tick alone and shows nothing.
+pub fn sleeps_skip_their_ticks()
+    ensures { (b : PlainBoard) (n : ℕ) (s : State) → is_all_idle s ≡ true → is_busy s ≡ false →
+        n < sleep_length b s → ticks b n s ≡ no_effect (record s { tick = s.tick + n }) }
+{}
+
+/// The board that a text is, is valid.
+#[tactic(auto, using(crate::proofs::ValidLemmas::read_is_valid))]
+pub fn boards_of_texts_are_valid()
+    ensures { (bytes : List ℕ) (b : PlainBoard) → IsBoard bytes b → IsValid b }
+{}
+
+/// The canonical text of a valid board is a text of it.
+#[tactic(auto, using(crate::proofs::ValidLemmas::canonical_is_board))]
+pub fn canonical_texts_are_texts_of_their_boards()
+    ensures { (b : PlainBoard) → IsValid b → IsBoard (canonical_text b) b }
 {}

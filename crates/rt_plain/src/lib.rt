@@ -2,19 +2,28 @@
 #![tactic(auto)]
 
 pub mod board;
+pub mod board_line;
+mod copy;
 pub mod entry;
+pub mod kind;
 pub mod laws;
 pub mod line;
 pub mod lines;
+pub mod quote;
 pub mod row;
 pub mod stmt;
+pub mod why;
 
 pub use board::{
     Arrival, Board, DeviceDef, EventDef, Limits, MailboxDef, MutexDef, QueueDef, Schedule, SemDef,
     ThreadDef, TimerDef, TimerKind,
 };
+pub use board_line::{BoardLine, LimitClass, ThreadLine};
 pub use entry::{Cut, Entry};
+pub use kind::{Kind, LineKind, StatementKind, Tail};
 pub use line::{Fired, Line, Woke};
 pub use lines::Lines;
+pub use quote::{QuoteStep, Quoting};
 pub use row::{Row, ThreadState, View};
 pub use stmt::{Call, Stmt, What};
+pub use why::Why;

@@ -2,4 +2,3 @@
 pub mod GrowLemmas
 pub mod TopLemmas
 pub mod SaidLemmas
-pub mod RunLemmas

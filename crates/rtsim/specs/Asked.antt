@@ -4,10 +4,10 @@ use Rattle.rt_edge.specs.Contents.{Names, IsAbsent, HasGrown}
 use Rattle.rt_plain.specs.Commands.{Command}
 use Rattle.rtsim.specs.Words.{file_of}
 use Rattle.rtsim.specs.Held.{IfHeld, IsHeld, IsLacked, Steady}
-use Rattle.rtsim.specs.Boards.{IsText, IsOver}
+use Rattle.rtsim.specs.Boards.{IsText, IsTooLong, HasBadLine, IsUnbuilt, IsOver}
 use Rattle.rtsim.specs.Endings.{status_of, message}
 use Rattle.rtsim.specs.declared.ending.Ending.{Ending}
-use Rattle.rtsim.specs.declared.ending.Ending.TheVariants.{Limited}
+use Rattle.rtsim.specs.declared.ending.Ending.TheVariants.{TooLong, BadLine, NotBuilt, Limited}
 
 -- the words are a command, whose file is held where the names are told, and so for what it holds
 abbrev pub IfAsked : Option Command → Option Names → (Command → List ℕ → Type 0) → Type 0
@@ -37,10 +37,13 @@ HasWritten old new command bytes = (text : List ℕ) × IsText command bytes tex
 abbrev pub HasBegun : Option (List ℕ) → Option (List ℕ) → Command → List ℕ → Type 0
 HasBegun old new command bytes = (text : List ℕ) × (n : ℕ) × IsText command bytes text × HasGrown old new (take n text)
 
--- the numbers of an ending are those at which the run met its limit
-abbrev pub HasNumbers : Option Command → Option Names → Ending → Type 0
-HasNumbers asked held (Limited entries lines) = IfAsked asked held (λ command bytes. IsOver bytes entries lines)
-HasNumbers asked held _ = Unit {0}
+-- an ending that tells of the file's board has its cause
+abbrev pub HasCause : Option Command → Option Names → Ending → Type 0
+HasCause asked held TooLong = IfAsked asked held (λ command bytes. IsTooLong bytes)
+HasCause asked held (BadLine line why) = IfAsked asked held (λ command bytes. HasBadLine bytes line why)
+HasCause asked held NotBuilt = IfAsked asked held (λ command bytes. IsUnbuilt bytes)
+HasCause asked held (Limited entries lines) = IfAsked asked held (λ command bytes. IsOver bytes entries lines)
+HasCause asked held _ = Unit {0}
 
 -- a sink got a front of a line, and all of it where no call failed
 pub record HasSaid (old new : Option (List ℕ)) (faults faults' : ℕ) (line : List ℕ) : Type 0 where
@@ -51,5 +54,5 @@ pub record HasSaid (old new : Option (List ℕ)) (faults faults' : ℕ) (line : 
 pub record TellsEnding (asked : Option Command) (held : Option Names) (file : List ℕ) (status : ℕ) (old new : Option (List ℕ)) (faults faults' : ℕ) : Type 0 where
   pub ending : Ending
   pub status_is : status ≡ status_of ending
-  pub numbers : HasNumbers asked held ending
+  pub cause : HasCause asked held ending
   pub said : HasSaid old new faults faults' (message file ending)

@@ -1,11 +1,12 @@
 ghost use Rattle.std.specs.Prelude.{◌≡◌, ℕ, OnOk, OnErr, take};
 ghost use Rattle.rt_edge.specs.Counts.{Rose};
 ghost use Rattle.rt_edge.specs.Contents.{HasGrown};
-ghost use Rattle.rtsim.specs.Endings.{message, limit_line};
+ghost use Rattle.rtsim.specs.Endings.{message, bad_line, limit_line, why_text};
 
 use crate::writing::{put_all, put_parts};
 use itoa::Buffer;
 use rt_edge::{Failed, Sink};
+use rt_plain::Why;
 
 /// How a command ends.
 #[derive(Clone, Copy, Debug, PartialEq, Eq)]
@@ -20,8 +21,12 @@ pub enum Ending {
     Unreadable,
     /// The text couldn't be written.
     Unwritable,
-    /// The file is no board.
-    Refused,
+    /// The file has more bytes than a board may have.
+    TooLong,
+    /// The first line of the file that breaks the rules of boards, numbered from 1, and the reason.
+    BadLine { no: u32, why: Why },
+    /// The file's board has something that isn't built yet.
+    NotBuilt,
     /// The run meets a limit before it halts, at so many entries and lines.
     Limited { entries: u32, lines: u32 },
     /// There was no memory.
@@ -41,9 +46,10 @@ impl Ending {
             Ending::Missing => 3,
             Ending::Unreadable => 4,
             Ending::Unwritable => 5,
-            Ending::Refused => 6,
+            Ending::TooLong | Ending::BadLine { .. } => 6,
             Ending::Limited { .. } => 7,
             Ending::Memory => 9,
+            Ending::NotBuilt => 10,
         }
     }
 
@@ -59,7 +65,9 @@ impl Ending {
             Ending::Missing => say_missing(file, err),
             Ending::Unreadable => put_all(err, b"rtsim: read fault\n"),
             Ending::Unwritable => put_all(err, b"rtsim: write fault\n"),
-            Ending::Refused => put_all(err, b"rtsim: board refused\n"),
+            Ending::TooLong => put_all(err, b"rtsim: board too long\n"),
+            Ending::BadLine { no, why } => say_bad_line(no, why, err),
+            Ending::NotBuilt => put_all(err, b"rtsim: not built\n"),
             Ending::Limited { entries, lines } => say_limited(entries, lines, err),
             Ending::Memory => put_all(err, b"rtsim: out of memory\n"),
         }
@@ -77,6 +85,48 @@ fn say_missing<E: Sink>(file: &str, err: &mut E) -> Result<(), Failed>
         &[
             b"rtsim: no such file ".as_slice(),
             file.as_bytes(),
+            b"\n".as_slice(),
+        ],
+    )
+}
+
+// The word of a reason.
+#[tactic(auto, unfolding(crate::specs::Endings::why_text))]
+fn why_word(why: Why) -> &'static [u8]
+    ensures { result.now ≡ why_text why }
+{
+    match why {
+        Why::Head => b"Head",
+        Why::Byte => b"Byte",
+        Why::Space => b"Space",
+        Why::Kind => b"Kind",
+        Why::Order => b"Order",
+        Why::Words => b"Words",
+        Why::Number => b"Number",
+        Why::Range => b"Range",
+        Why::Name => b"Name",
+        Why::Choice => b"Choice",
+        Why::Text => b"Text",
+        Why::Twice => b"Twice",
+        Why::Full => b"Full",
+        Why::Refer => b"Refer",
+    }
+}
+
+// Says which line of a file is the first bad one, and why.
+fn say_bad_line<E: Sink>(no: u32, why: Why, err: &mut E) -> Result<(), Failed>
+    ensures ok { OnOk result (HasGrown (E.holds err.old) (E.holds err.new) (bad_line no why)) }
+    ensures front { OnErr result ((n : ℕ) × HasGrown (E.holds err.old) (E.holds err.new) (take n (bad_line no why))) }
+    ensures failed { OnErr result (Rose (E.faults err.old) (E.faults err.new)) }
+{
+    let mut digits = Buffer::new();
+    put_parts(
+        err,
+        &[
+            b"rtsim: line ".as_slice(),
+            digits.format(no).as_bytes(),
+            b": ".as_slice(),
+            why_word(why),
             b"\n".as_slice(),
         ],
     )

@@ -10,6 +10,8 @@ const BOARD: &[u8] =
 const TRACE: &[u8] =
     b"1 c0 @0\n  run A\n2 c0 @0\n  do A 1 0\n  print \"hi\"\n3 c0 @0\n  do A 2 wait\n4 tick 1\n5 tick 2\n6 tick 3\n7 tick 4\n8 tick 5\n9 tick 6\n10 tick 7\n11 tick 8\n12 tick 9\n13 tick 10\n  timeout A\n  wake A 0\n14 c0 @10\n  run A\n15 c0 @10\n  do A 3 0\n  print \"bye\"\n16 c0 @10\n  do A 4 0\n  close A\nend quiet @10\n";
 
+const LEADING_ZERO: &[u8] = b"board 1\nthread A 10 10 any start\n  delay 010\n";
+
 const ENDLESS: &[u8] = b"board 1\nentries 5\nthread A 10 10 any start\n  print \"x\"\n  goto 1\n";
 
 const TWO_TICKS: &[u8] = b"board 1\nuntil 2\nthread A 10 10 any start\n  print \"x\"\n  goto 1\n";
@@ -98,7 +100,7 @@ fn commands_write_their_texts(rt: HostRuntime) -> Result<(), Fail> {
 
 #[test]
 fn each_refusal_has_its_status_and_its_line(rt: HostRuntime) -> Result<(), Fail> {
-    let rows: [(&[&str], &[u8], u8, &[u8]); 8] = [
+    let rows: [(&[&str], &[u8], u8, &[u8]); 10] = [
         (&["trace"], BOARD, 2, b"rtsim: usage\n"),
         (&["frob", "b"], BOARD, 2, b"rtsim: usage\n"),
         (
@@ -107,9 +109,21 @@ fn each_refusal_has_its_status_and_its_line(rt: HostRuntime) -> Result<(), Fail>
             3,
             b"rtsim: no such file nofile\n",
         ),
-        (&["trace", "b"], b"", 6, b"rtsim: board refused\n"),
-        (&["trace", "b"], b"board 2\n", 6, b"rtsim: board refused\n"),
-        (&["run", "b"], b"board 1", 6, b"rtsim: board refused\n"),
+        (&["trace", "b"], b"", 6, b"rtsim: line 1: Head\n"),
+        (&["trace", "b"], b"board 2\n", 6, b"rtsim: line 1: Head\n"),
+        (&["run", "b"], LEADING_ZERO, 6, b"rtsim: line 3: Number\n"),
+        (
+            &["run", "b"],
+            b"board 1\nsem s 0 fifo\n",
+            10,
+            b"rtsim: not built\n",
+        ),
+        (
+            &["trace", "b"],
+            b"board 1\ncores 2\n",
+            10,
+            b"rtsim: not built\n",
+        ),
         (
             &["run", "b"],
             ENDLESS,
@@ -129,6 +143,28 @@ fn each_refusal_has_its_status_and_its_line(rt: HostRuntime) -> Result<(), Fail>
         assert!(rt; told.out.bytes().is_empty());
         assert!(rt; told.err.bytes() == line);
     }
+    Ok(())
+}
+
+// A comment fills the board up to this many bytes.
+fn filled(alloc: Global, bytes: usize) -> Result<Vec<u8>, AllocError> {
+    let mut board = Vec::from_slice(alloc, b"board 1\n#")?;
+    for _ in 9..bytes {
+        board.push(b'x')?;
+    }
+    Ok(board)
+}
+
+#[test]
+fn a_board_has_at_most_1048576_bytes(rt: HostRuntime) -> Result<(), Fail> {
+    let wide = Outside { most: 4096, ..GOOD };
+    let longest = filled(rt.alloc(), 1_048_576)?;
+    let told = tell(rt.alloc(), &["trace", "b"], &longest, wide)?;
+    assert_eq!(rt; told.status, 0);
+    let longer = filled(rt.alloc(), 1_048_577)?;
+    let told = tell(rt.alloc(), &["trace", "b"], &longer, wide)?;
+    assert_eq!(rt; told.status, 6);
+    assert!(rt; told.err.bytes() == b"rtsim: board too long\n".as_slice());
     Ok(())
 }
 

@@ -2,16 +2,16 @@ ghost use Rattle.std.specs.Prelude.{◌≡◌, ◌↔◌, ◌⊎◌, None};
 ghost use Rattle.rt_edge.specs.Counts.{Rose};
 ghost use Rattle.rtsim.specs.Held.{Steady};
 ghost use Rattle.rtsim.specs.Words.{command_of, named_file};
-ghost use Rattle.rtsim.specs.Boards.{IsRefused, Stops, Halts};
-ghost use Rattle.rtsim.specs.Asked.{IfAsked, IsMissing, AsksFor, AsksForNone, HasWritten, HasBegun, HasNumbers, TellsEnding};
+ghost use Rattle.rtsim.specs.Boards.{IsRefused, IsUnbuilt, Stops, Halts};
+ghost use Rattle.rtsim.specs.Asked.{IfAsked, IsMissing, AsksFor, AsksForNone, HasWritten, HasBegun, HasCause, TellsEnding};
 
 use crate::ending::Ending;
 use crate::reading::{ReadFault, read_file};
 use crate::tracing::{Refusal, text_of};
 use crate::words::{command_of, file_of, named_file};
 use crate::writing::put_all;
-use board_text::laws::bytes_are_one_board;
 use rt_edge::{Failed, Files, Sink};
+use rt_plain::laws::{texts_are_one_board, texts_without_a_bad_line_are_boards};
 use std::alloc::Global;
 
 // The most bytes of a board file.
@@ -26,8 +26,7 @@ fn perform<F: Files, O: Sink>(alloc: Global, words: &[String], files: &mut F, ou
     ensures unreadable { result ≡ Ending.Unreadable → Rose (F.faults files.old) (F.faults files.new) }
     ensures unwritable { result ≡ Ending.Unwritable → Rose (O.faults out.old) (O.faults out.new) }
     ensures begun { result ≡ Ending.Unwritable → IfAsked (command_of words.now) (F.held files.old) (HasBegun (O.holds out.old) (O.holds out.new)) }
-    ensures refused { result ≡ Ending.Refused → IfAsked (command_of words.now) (F.held files.old) (λ command bytes. IsRefused bytes) }
-    ensures limited { HasNumbers (command_of words.now) (F.held files.old) result }
+    ensures cause { HasCause (command_of words.now) (F.held files.old) result }
     ensures found { result ≡ Ending.Memory → IfAsked (command_of words.now) (F.held files.old) (λ command bytes. Unit {0}) }
     ensures kept { (result ≡ Ending.Done → ⊥) → (result ≡ Ending.Unwritable → ⊥) → out.new ≡ out.old }
 {
@@ -38,12 +37,13 @@ fn perform<F: Files, O: Sink>(alloc: Global, words: &[String], files: &mut F, ou
         Ok(bytes) => bytes,
         Err(ReadFault::Missing) => return Ending::Missing,
         Err(ReadFault::Failed) => return Ending::Unreadable,
-        Err(ReadFault::TooLong) => return Ending::Refused,
+        Err(ReadFault::TooLong) => return Ending::TooLong,
         Err(ReadFault::Memory) => return Ending::Memory,
     };
     let text = match text_of(alloc, command, &bytes) {
         Ok(text) => text,
-        Err(Refusal::Board) => return Ending::Refused,
+        Err(Refusal::BadLine { no, why }) => return Ending::BadLine { no, why },
+        Err(Refusal::NotBuilt) => return Ending::NotBuilt,
         Err(Refusal::Limit { entries, lines }) => return Ending::Limited { entries, lines },
         Err(Refusal::Memory) => return Ending::Memory,
     };
@@ -60,9 +60,10 @@ fn perform<F: Files, O: Sink>(alloc: Global, words: &[String], files: &mut F, ou
 /// - 3: there is no file of the name;
 /// - 4: the file couldn't be read;
 /// - 5: the text couldn't be written, but for a front of it;
-/// - 6: the file has more than 1,048,576 bytes, or is no board;
+/// - 6: the file has more than 1,048,576 bytes, or a line that breaks the rules of boards;
 /// - 7: the run meets a limit before it halts;
-/// - 9: there was no memory.
+/// - 9: there was no memory;
+/// - 10: the board has something that isn't built yet.
 ///
 /// Each status but 0 has a line on `err`. Whether that line is written changes no status.
 pub fn rtsim<F: Files, O: Sink, E: Sink>(
@@ -82,19 +83,22 @@ pub fn rtsim<F: Files, O: Sink, E: Sink>(
     ensures unwritable { result ≡ 5 → Rose (O.faults out.old) (O.faults out.new) }
     ensures begun { result ≡ 5 → IfAsked (command_of words.now) (F.held files.old) (HasBegun (O.holds out.old) (O.holds out.new)) }
     ensures refused { result ≡ 6 → IfAsked (command_of words.now) (F.held files.old) (λ command bytes. IsRefused bytes) }
+    ensures unbuilt { result ≡ 10 → IfAsked (command_of words.now) (F.held files.old) (λ command bytes. IsUnbuilt bytes) }
     ensures limited { result ≡ 7 → IfAsked (command_of words.now) (F.held files.old) (λ command bytes. Stops bytes) }
     ensures kept { (result ≡ 0 → ⊥) → (result ≡ 5 → ⊥) → out.new ≡ out.old }
 
     // Where no file failed, each cause has its status, but for want of memory.
     ensures absent_comes { Steady (F.faults files.old) (F.faults files.new) → AsksForNone (command_of words.now) (F.held files.old) → result ≡ 3 }
     ensures refused_comes { Steady (F.faults files.old) (F.faults files.new) → AsksFor (command_of words.now) (F.held files.old) IsRefused → (result ≡ 6) ⊎ (result ≡ 9) }
+    ensures unbuilt_comes { Steady (F.faults files.old) (F.faults files.new) → AsksFor (command_of words.now) (F.held files.old) IsUnbuilt → (result ≡ 10) ⊎ (result ≡ 9) }
     ensures limited_comes { Steady (F.faults files.old) (F.faults files.new) → AsksFor (command_of words.now) (F.held files.old) Stops → (result ≡ 7) ⊎ (result ≡ 9) }
     ensures done_comes { Steady (F.faults files.old) (F.faults files.new) → Steady (O.faults out.old) (O.faults out.new) → AsksFor (command_of words.now) (F.held files.old) Halts → (result ≡ 0) ⊎ (result ≡ 9) }
 
     // The status is one of these, and its line was told.
     ensures told { TellsEnding (command_of words.now) (F.held files.old) (named_file words.now) result (E.holds err.old) (E.holds err.new) (E.faults err.old) (E.faults err.new) }
 {
-    bytes_are_one_board();
+    texts_are_one_board();
+    texts_without_a_bad_line_are_boards();
     let ending = perform(alloc, words, files, out);
     let _ = ending.say(named_file(words), err);
     ending.status()

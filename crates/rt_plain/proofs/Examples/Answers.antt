@@ -22,6 +22,7 @@ abbrev pub stocked : PlainBoard
 stocked = let b = empty_board Sleep.Light in record b {
   limits = record { sem = 3; event = 64; mutex = 256 };
   sems = record { name = codes "full"; value = 65535; order = WaitOrder.Fifo } ∷ record { name = codes "none"; value = 0; order = WaitOrder.Fifo } ∷ [];
+  mutexes = record { name = codes "m"; ceiling = 31 } ∷ [];
   mailboxes = record { name = codes "mb"; size = 1; order = WaitOrder.Fifo } ∷ [];
   queues = record { name = codes "q"; max = 4; size = 1; order = WaitOrder.Fifo } ∷ [];
   devices = record { name = codes "uart1"; rx = 4; tx = 4; rate = 3; pm = false; ind = None } ∷ [];
@@ -192,6 +193,10 @@ pub nest_is_free : (often 255 Call.Unlock (often 255 Call.Lock start)).nest ≡ 
 unfolding open_state
 nest_is_free = refl
 
+pub last_lock : answer Call.Lock (often 254 Call.Lock start) ≡ Answers Code.Ok
+unfolding open_state
+last_lock = refl
+
 pub not_the_holder : answer Call.Unlock start ≡ Answers Code.Error
 unfolding open_state
 not_the_holder = refl
@@ -200,9 +205,30 @@ pub locks_are_full : answer Call.SchedLock (often 255 Call.SchedLock start) ≡ 
 unfolding open_state
 locks_are_full = refl
 
+pub last_scheduler_lock : answer Call.SchedLock (often 254 Call.SchedLock start) ≡ Answers Code.Ok
+unfolding open_state
+last_scheduler_lock = refl
+
 pub no_scheduler_lock : answer Call.SchedUnlock start ≡ Answers Code.Error
 unfolding open_state
 no_scheduler_lock = refl
+
+-- a mutex and a device at their greatest counts
+pub hold_is_full : answer (Call.MutexTake (codes "m") (Some 0)) (often 255 (Call.MutexTake (codes "m") (Some 0)) start) ≡ Answers Code.Full
+unfolding open_state
+hold_is_full = refl
+
+pub last_hold : answer (Call.MutexTake (codes "m") (Some 0)) (often 254 (Call.MutexTake (codes "m") (Some 0)) start) ≡ Answers Code.Ok
+unfolding open_state
+last_hold = refl
+
+pub openings_are_full : answer (Call.DevOpen (codes "uart1")) (often 255 (Call.DevOpen (codes "uart1")) start) ≡ Answers Code.Full
+unfolding open_state
+openings_are_full = refl
+
+pub last_opening : answer (Call.DevOpen (codes "uart1")) (often 254 (Call.DevOpen (codes "uart1")) start) ≡ Answers Code.Ok
+unfolding open_state
+last_opening = refl
 
 -- a timer due at 10 and an arrival at 9
 abbrev pub resting : PlainBoard

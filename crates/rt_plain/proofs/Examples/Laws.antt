@@ -1,54 +1,60 @@
--- On examples: every state of a run is sound, every entry has room, and sleeps change nothing.
-use Rattle.std.specs.Prelude.{◌≡◌, refl, ℕ, Bool, true, false, ◌&&◌, List, [], ◌∷◌, Option, Some, None, map, length, nat_le}
+-- On examples: what the laws of runs ask of a board, complete runs, room, and that sleeps change nothing.
+use Rattle.std.specs.Prelude.{◌≡◌, ◌≤◌, Contains, IsTrue, refl, ℕ, Bool, true, false, List, [], ◌∷◌, Some, map, length, nat_le}
 use Rattle.std.specs.List.{list_all}
 use Rattle.std.specs.Fmt.{digits}
-use Rattle.rt_base.specs.declared.codes.Event.{Event}
 use Rattle.rt_base.specs.declared.codes.Sleep.{Sleep}
-use Rattle.rt_plain.specs.PlainBoard.{PlainBoard}
-use Rattle.rt_plain.specs.Sound.{is_sound}
-use Rattle.rt_plain.specs.Runs.{events_of, room, is_over, IsComplete}
+use Rattle.rt_plain.specs.Sound.{is_timed, is_timed_action, IsProper, IsSized, IsSound}
+use Rattle.rt_plain.specs.Runs.{IsRun, room, is_over, IsComplete}
 use Rattle.rt_plain.specs.Tickless.{with_tickless, firings_of, deeds_of}
 use Rattle.rt_plain.specs.State.{State}
-use Rattle.rt_plain.specs.Sleeps.{Did, Made, Same, Halted}
 use Rattle.rt_plain.specs.Steps.{happens}
-use Rattle.rt_plain.specs.Schedules.{moved, driven}
+use Rattle.rt_plain.specs.Schedules.{moved, driven, IsDriveable}
 use Rattle.rt_plain.specs.Opening.{open_state}
 use Rattle.std.proofs.Common.{arith}
-use Rattle.std.proofs.lemmas.List.Elements.{All-nil}
+use Rattle.std.proofs.lemmas.List.Elements.{All-nil, All-from_recursion}
 use Rattle.rt_base.specs.declared.codes.Halt.{Halt}
+use Rattle.rt_plain.specs.declared.board.Arrival.{Arrival}
+use Rattle.rt_plain.specs.declared.board.ThreadDef.{ThreadDef}
+use Rattle.rt_plain.specs.declared.board.TimerDef.{TimerDef}
+use Rattle.rt_plain.specs.declared.entry.Entry.{Entry}
+use Rattle.rt_plain.specs.declared.board.DeviceDef.{DeviceDef}
+use Rattle.rt_plain.specs.Shell.{console_name}
+use Rattle.rt_plain.proofs.SoundLemmas.{reached-sound}
 use Rattle.rt_plain.proofs.CompleteLemmas.{scheduled-complete}
 use Rattle.rt_plain.proofs.Examples.Boards.{course}
 use Rattle.rt_plain.proofs.Examples.Sleeping.{sleeper}
 use Rattle.rt_plain.proofs.Examples.Mutexes.{inversion}
-use Rattle.rt_plain.proofs.Examples.Mailboxes.{stolen_mail}
 use Rattle.rt_plain.proofs.Examples.Realistic.{realistic}
 
--- whether each state after these events is sound
-abbrev pub next_state : Did → Option State
-next_state (Made s lines) = Some s
-next_state Same = None
-next_state (Halted halt) = None
+-- what the laws of runs ask of a board
+pub realistic_is_proper : IsProper realistic
+realistic_is_proper = record {
+  scripts = All-from_recursion (λ (def : ThreadDef). IsTrue (list_all is_timed def.script)) realistic.threads (refl, (refl, (refl, (refl, (refl, tt)))));
+  timers = All-from_recursion (λ (def : TimerDef). (1 ≤ def.time) × IsTrue (is_timed_action def.call)) realistic.timers ((omega arith, refl), tt);
+  names = λ i j d less inside. absurd (omega (arith, less, inside));
+  until = omega arith;
+}
 
-abbrev pub are_sound : PlainBoard → List Event → Option State → Bool
-are_sound b [] None = false
-are_sound b [] (Some s) = is_sound s
-are_sound b (event ∷ events) None = false
-are_sound b (event ∷ events) (Some s) = is_sound s && are_sound b events (next_state (happens b s event))
+pub realistic_is_sized : IsSized realistic
+realistic_is_sized = record {
+  sems = omega arith;
+  events = omega arith;
+  mutexes = omega arith;
+  mailboxes = omega arith;
+  queues = omega arith;
+  sem_limit = omega arith;
+  event_limit = omega arith;
+  mutex_limit = omega arith;
+  known = All-from_recursion (λ (a : Arrival). Contains (console_name ∷ map (λ (d : DeviceDef). d.name) realistic.devices) a.device) realistic.arrivals ((0, omega arith, refl), tt);
+  once = λ i j d less inside. absurd (omega (arith, less, inside));
+}
 
-abbrev pub is_sound_run : PlainBoard → Bool
-is_sound_run b = are_sound b (events_of (course b).journal) (Some (open_state b))
+pub realistic_is_driveable : IsDriveable realistic
+realistic_is_driveable = record { some_core = omega arith; listed = All-nil _ }
 
-pub inversion_is_sound : is_sound_run inversion ≡ true
-unfolding happens open_state moved driven
-inversion_is_sound = refl
-
-pub stolen_mail_is_sound : is_sound_run stolen_mail ≡ true
-unfolding digits happens open_state moved driven
-stolen_mail_is_sound = refl
-
-pub realistic_is_sound : is_sound_run realistic ≡ true
-unfolding digits happens open_state moved driven
-realistic_is_sound = refl
+-- every state of its runs is sound
+pub realistic_is_sound : (journal : List Entry) (s : State) → IsRun realistic (open_state realistic) journal s → IsSound realistic s
+realistic_is_sound journal s run = reached-sound realistic journal s realistic_is_proper run
 
 -- no entry has more lines than the room
 pub realistic_has_room : list_all (λ e. nat_le (length e.lines) (room realistic)) (course realistic).journal ≡ true

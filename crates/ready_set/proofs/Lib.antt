@@ -1,0 +1,6 @@
+pub mod Chains
+pub mod LinkLemmas
+pub mod LevelBits
+pub mod RowLemmas
+pub mod PickLemmas
+pub mod HeldLemmas

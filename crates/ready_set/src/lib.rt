@@ -1,0 +1,11 @@
+//! The threads that are ready to run: a queue for each priority and binding, over bitmaps that find the next one.
+#![tactic(auto)]
+
+mod bits;
+mod queues;
+mod ready;
+#[cfg(test)]
+mod tests;
+mod words;
+
+pub use ready::ReadySet;

@@ -1,0 +1,329 @@
+-- A field's value has one spelling: what is read is spelled so, and what is spelled is read.
+use Rattle.std.proofs.Common.{◌≡◌, ℕ, not, drop, get_or, ◌<◌, ◌≤◌, ◌^◌, min, Bool, true, false, ◌&&◌, ◌||◌, eqb, leb, ltb, cond, List, [], ◌∷◌, length, Option, Some, None, Result, Ok, Err, refl, sym, ap, ◌∙◌, subst, arith, decimal, codes, inl, inr, ◌⊎◌}
+use Rattle.std.specs.Prelude.{IsTrue, bytes_eq}
+use Rattle.std.specs.List.{list_all}
+use Rattle.std.specs.Fmt.{digits}
+use Rattle.std.proofs.lemmas.Bool.{and_parts, and_from, or_cases, eqb-true, leb-true, le-leb, ltb-true, lt-ltb, ne_eqb, eqb-false, not_from_false, cases_Bool, false_from_ne_true, both_ways}
+use Rattle.std.proofs.lemmas.Fmt.{digits_decimal}
+use Rattle.std.proofs.lemmas.Slice.Eq.{bytes_eq-Decides}
+use Rattle.std.proofs.lemmas.List.Elements.{recursion_from_All, All-from_recursion}
+use Rattle.rt_base.specs.Grammar.{is_name, is_text}
+use Rattle.rt_base.specs.declared.codes.Code.{Code}
+use Rattle.rt_base.specs.declared.codes.Class.{Class}
+use Rattle.rt_base.specs.declared.codes.Sleep.{Sleep}
+use Rattle.rt_base.specs.declared.codes.RunMode.{RunMode}
+use Rattle.rt_base.specs.declared.codes.WaitOrder.{WaitOrder}
+use Rattle.rt_plain.specs.declared.board.TimerKind.{TimerKind}
+use Rattle.rt_plain.specs.declared.stmt.What.{What}
+use Rattle.rt_plain.specs.declared.why.Why.{Why}
+use Rattle.rt_plain.specs.declared.quote.Quoting.TheVariants.{Plain}
+use Rattle.rt_plain.specs.Words.{code_text, sleep_text, run_mode_text, order_text, class_text}
+use Rattle.rt_plain.specs.Texts.{quoted_text}
+use Rattle.rt_plain.specs.Splits.{is_printable}
+use Rattle.rt_plain.specs.Fields.{Field, Number, Levels, Core, Wait, Named, Indicated, Quoted, Coded, Ordered, Said, Classed, Moded, Ran, Repeated, Started, Armed, How, Keep, OnOff, Powered, Value, Fits, spelled, value_in, listed_in, all_codes, all_orders, all_whats, deletable_classes, all_modes, all_run_modes, all_timer_kinds, code_in, order_in, what_in, what_text, class_in, is_deletable, mode_in, run_in, timer_kind_in, timer_kind_text, indicated_in, name_or_dash, number_in, is_within, levels_in, core_in, wait_in, name_in, choice_in, text_in, text_or, unquoted, result_map, read_on, is_number, either, is_digit}
+use Rattle.rt_plain.proofs.NumberLemmas.{own, number_takes, number_again}
+use Rattle.rt_plain.proofs.QuoteLemmas.{text-again, text_takes}
+
+-- which way a test went
+pub chosen : {A : Type 0} (b : Bool) (x y z : A) → cond b x y ≡ z → ((b ≡ true) × (x ≡ z)) ⊎ ((b ≡ false) × (y ≡ z))
+chosen true x y z e = inl (refl, e)
+chosen false x y z e = inr (refl, e)
+
+pub when : {A : Type 0} (b : Bool) (x y : A) → b ≡ true → cond b x y ≡ x
+when true x y e = refl
+when false x y e = absurd cc
+
+pub unless : {A : Type 0} (b : Bool) (x y : A) → b ≡ false → cond b x y ≡ y
+unless true x y e = absurd cc
+unless false x y e = refl
+
+-- a guarded value
+pub kept : {A : Type 0} (b : Bool) (e : Why) (x y : A) → cond b (Ok x) (Err e) ≡ Ok y → (b ≡ true) × (x ≡ y)
+kept true e x y h = (refl, cc)
+kept false e x y h = absurd cc
+
+pub kept_in : {A : Type 0} (b : Bool) (e : Why) (r : Result A Why) (y : A) → cond b r (Err e) ≡ Ok y → (b ≡ true) × (r ≡ Ok y)
+kept_in true e r y h = (refl, h)
+kept_in false e r y h = absurd cc
+
+abbrev done : {A : Type 0} → A → Result A Why
+done x = Ok x
+
+pub ok_is : {A : Type 0} (x y : A) → done x ≡ done y → x ≡ y
+ok_is x y e = cc
+
+pub is_word : (w v : List ℕ) → bytes_eq w v ≡ true → w ≡ v
+is_word w v e = (bytes_eq-Decides w v).0 e
+
+pub is_same : (w : List ℕ) → bytes_eq w w ≡ true
+is_same w = (bytes_eq-Decides w w).1 refl
+
+-- ---- numbers
+
+pub number-takes : (low high : ℕ) (w : List ℕ) (n : ℕ) → number_in low high w ≡ Ok n → (decimal n ≡ w) × ((low ≤ n) × (n ≤ high) × (n < 2 ^ 32))
+number-takes low high w n e =
+    let a = kept_in (is_number w) Why.Number _ n e in
+    let b = kept (is_within low high (read_on 0 w)) Why.Range (read_on 0 w) n a.1 in
+    let c = and_parts (leb low (read_on 0 w) && leb (read_on 0 w) high) (ltb (read_on 0 w) (2 ^ 32)) b.0 in
+    let d = and_parts (leb low (read_on 0 w)) (leb (read_on 0 w) high) c.0 in
+    let lt : read_on 0 w < 2 ^ 32 = ltb-true _ _ c.1 in
+    subst (λ (m : ℕ). (decimal m ≡ w) × ((low ≤ m) × (m ≤ high) × (m < 2 ^ 32))) b.1 (number_takes w a.0 (omega arith), (leb-true _ _ d.0, leb-true _ _ d.1, lt))
+
+pub number-again : (low high n : ℕ) → low ≤ n → n ≤ high → n < 2 ^ 32 → number_in low high (decimal n) ≡ Ok n
+number-again low high n a b c =
+    let t = number_again n (omega arith) in
+    let within : is_within low high n ≡ true = and_from _ _ (and_from _ _ (le-leb low n a) (le-leb n high b)) (lt-ltb n (2 ^ 32) c) in
+    rw (t.0, t.1, within) refl
+
+-- ---- choices
+
+pub choice-takes : (first second w : List ℕ) (b : Bool) → choice_in first second w ≡ Ok b → w ≡ either first second b
+choice-takes first second w b e =
+    elim (chosen (bytes_eq w first) (done true) _ (Ok b) e) [
+      | inl h ↦ is_word w first h.0 ∙ ap (either first second) (ok_is true b h.1)
+      | inr h ↦ (let k = kept (bytes_eq w second) Why.Choice false b h.1 in is_word w second k.0 ∙ ap (either first second) k.1)
+    ]
+
+pub choice-again : (first second : List ℕ) (b : Bool) → bytes_eq second first ≡ false → choice_in first second (either first second b) ≡ Ok b
+choice-again first second true ne = rw (is_same first) refl
+choice-again first second false ne = rw (ne, is_same second) refl
+
+-- ---- all fields
+
+-- what reading gives fits, but that 255 stands for all cores from there on
+abbrev pub IsTold : (f : Field) → Value f → Type 0
+IsTold Core v = Fits Core v
+IsTold (Number low high) v = Unit {0}
+IsTold Levels v = Unit {0}
+IsTold Wait v = Unit {0}
+IsTold Named v = Unit {0}
+IsTold Quoted v = Unit {0}
+IsTold Ordered v = Unit {0}
+IsTold Repeated v = Unit {0}
+IsTold Armed v = Unit {0}
+IsTold Started v = Unit {0}
+IsTold How v = Unit {0}
+IsTold Keep v = Unit {0}
+IsTold OnOff v = Unit {0}
+IsTold Powered v = Unit {0}
+IsTold Coded v = Unit {0}
+IsTold Said v = Unit {0}
+IsTold Classed v = Unit {0}
+IsTold Moded v = Unit {0}
+IsTold Ran v = Unit {0}
+IsTold Indicated v = Unit {0}
+
+pub levels_small : (n : ℕ) → Fits Levels n → n < 2 ^ 64
+levels_small n h =
+    elim (or_cases (eqb n 8 || eqb n 32) (eqb n 256) h) [
+      | inl g ↦ elim (or_cases (eqb n 8) (eqb n 32) g) [ inl e ↦ omega (arith, eqb-true n 8 e) | inr e ↦ omega (arith, eqb-true n 32 e) ]
+      | inr e ↦ omega (arith, eqb-true n 256 e)
+    ]
+
+pub map_ok : {A B : Type 0} (f : A → B) (r : Result A Why) (y : B) → result_map f r ≡ Ok y → (x : A) × (r ≡ Ok x) × (f x ≡ y)
+map_ok f (Ok x) y e = (x, refl, cc)
+map_ok f (Err d) y e = absurd cc
+
+pub levels-takes : (w : List ℕ) (n : ℕ) → levels_in w ≡ Ok n → (w ≡ decimal n) × Fits Levels n
+levels-takes w n e =
+    let a = kept_in (is_number w) Why.Number _ n e in
+    let b = kept (eqb (read_on 0 w) 8 || eqb (read_on 0 w) 32 || eqb (read_on 0 w) 256) Why.Range (read_on 0 w) n a.1 in
+    (sym (number_takes w a.0 (levels_small (read_on 0 w) b.0)) ∙ ap decimal b.1, subst (Fits Levels) b.1 b.0)
+
+pub core-takes : (w : List ℕ) (v : Option ℕ) → core_in w ≡ Ok v → Fits Core v → w ≡ spelled Core v
+core-takes w None e f =
+    elim (chosen (bytes_eq w (codes "any")) (done None) _ (Ok None) e) [
+      | inl h ↦ is_word w (codes "any") h.0
+      | inr h ↦ absurd (let k = kept (is_number w) Why.Number (Some (min (read_on 0 w) 255)) None h.1 in cc)
+    ]
+core-takes w (Some n) e f =
+    elim (chosen (bytes_eq w (codes "any")) (done None) _ (Ok (Some n)) e) [
+      | inl h ↦ absurd (let k = h.1 in cc)
+      | inr h ↦ (let k = kept (is_number w) Why.Number (Some (min (read_on 0 w) 255)) (Some n) h.1 in
+          let same : min (read_on 0 w) 255 ≡ n = cc in
+          let is : read_on 0 w ≡ n = omega arith in
+          sym (number_takes w k.0 (omega arith)) ∙ ap decimal is)
+    ]
+
+pub wait-takes : (w : List ℕ) (v : Option ℕ) → wait_in w ≡ Ok v → (w ≡ spelled Wait v) × Fits Wait v
+wait-takes w v e =
+    elim (chosen (bytes_eq w (codes "ever")) (done None) _ (Ok v) e) [
+      | inl h ↦ (let same : None ≡ v = ok_is None v h.1 in subst (λ (u : Option ℕ). (w ≡ spelled Wait u) × Fits Wait u) same (is_word w (codes "ever") h.0, tt))
+      | inr h ↦ (let m = map_ok (λ n. Some n) (number_in 0 2147483647 w) v h.1 in
+          let k = number-takes 0 2147483647 w m.0 m.1 in
+          subst (λ (u : Option ℕ). (w ≡ spelled Wait u) × Fits Wait u) m.2 (sym k.0, omega (arith, k.1)))
+    ]
+
+text_some : (o : Option (List ℕ)) (v : List ℕ) → text_or o ≡ Ok v → (t : List ℕ) × (o ≡ Some t) × (cond (is_text t) (Ok t) (Err Why.Text) ≡ done v)
+text_some None v e = absurd cc
+text_some (Some t) v e = (t, refl, e)
+
+pub text-takes : (w : List ℕ) (v : List ℕ) → list_all is_printable w ≡ true → text_in w ≡ Ok v → (w ≡ quoted_text v) × Fits Quoted v
+text-takes [] v p e = absurd cc
+text-takes (b ∷ bs) v p e =
+    let q = and_parts (is_printable b) (list_all is_printable bs) p in
+    let a = kept_in (eqb b 34) Why.Text (text_or (unquoted Plain bs)) v e in
+    let t = text_some (unquoted Plain bs) v a.1 in
+    let k = kept (is_text t.0) Why.Text t.0 v t.2 in
+    let r = text_takes Plain bs t.0 q.1 tt t.1 in
+    subst (λ (u : List ℕ). (b ∷ bs ≡ quoted_text u) × Fits Quoted u) k.1 (ap (λ (x : ℕ). x ∷ bs) (eqb-true b 34 a.0) ∙ ap (λ (x : List ℕ). 34 ∷ x) r.0, (k.0, All-from_recursion (λ (c : ℕ). c < 256) t.0 r.1))
+
+pub name-takes : (w v : List ℕ) → name_in w ≡ Ok v → (w ≡ v) × Fits Named v
+name-takes w v e = let k = kept (is_name w) Why.Name w v e in (k.1, subst (λ (u : List ℕ). IsTrue (is_name u)) k.1 k.0)
+
+-- ---- listed words
+
+abbrev pub AreTheWords : {A : Type 0} → (A → List ℕ) → List (List ℕ × A) → Type 0
+AreTheWords word [] = Unit {0}
+AreTheWords word (p ∷ ps) = (p.0 ≡ word p.1) × AreTheWords word ps
+
+pub listed-takes : {A : Type 0} (reason : Why) (word : A → List ℕ) (ps : List (List ℕ × A)) (w : List ℕ) (v : A) → AreTheWords word ps → listed_in reason ps w ≡ Ok v → w ≡ word v
+listed-takes reason word [] w v h e = absurd cc
+listed-takes reason word (p ∷ ps) w v h e =
+    elim (chosen (bytes_eq w p.0) (done p.1) (listed_in reason ps w) (Ok v) e) [
+      | inl g ↦ is_word w p.0 g.0 ∙ h.0 ∙ ap word (ok_is p.1 v g.1)
+      | inr g ↦ listed-takes reason word ps w v h.1 g.1
+    ]
+
+code-takes : (w : List ℕ) (v : Code) → code_in w ≡ Ok v → w ≡ code_text v
+unfolding digits
+code-takes w v e = listed-takes Why.Number code_text all_codes w v (refl, (refl, (refl, (refl, (refl, (refl, (refl, (refl, (refl, (refl, (refl, tt))))))))))) e
+
+code-again : (v : Code) → code_in (code_text v) ≡ Ok v
+unfolding digits
+code-again Code.Ok = refl
+code-again _ = refl
+
+order-takes : (w : List ℕ) (v : WaitOrder) → order_in w ≡ Ok v → w ≡ order_text v
+order-takes w v e = listed-takes Why.Choice order_text all_orders w v (refl, (refl, tt)) e
+
+order-again : (v : WaitOrder) → order_in (order_text v) ≡ Ok v
+order-again WaitOrder.Fifo = refl
+order-again _ = refl
+
+what-takes : (w : List ℕ) (v : What) → what_in w ≡ Ok v → w ≡ what_text v
+what-takes w v e = listed-takes Why.Choice what_text all_whats w v (refl, (refl, (refl, tt))) e
+
+what-again : (v : What) → what_in (what_text v) ≡ Ok v
+what-again What.Code = refl
+what-again _ = refl
+
+class-takes : (w : List ℕ) (v : Class) → class_in w ≡ Ok v → w ≡ class_text v
+class-takes w v e = listed-takes Why.Choice class_text deletable_classes w v (refl, (refl, (refl, (refl, (refl, tt))))) e
+
+-- each listed value passes the test
+abbrev AllPass : {A : Type 0} → (A → Bool) → List (List ℕ × A) → Type 0
+AllPass test [] = Unit {0}
+AllPass test (p ∷ ps) = IsTrue (test p.1) × AllPass test ps
+
+listed-passes : {A : Type 0} (reason : Why) (test : A → Bool) (ps : List (List ℕ × A)) (w : List ℕ) (v : A) → AllPass test ps → listed_in reason ps w ≡ Ok v → IsTrue (test v)
+listed-passes reason test [] w v h e = absurd cc
+listed-passes reason test (p ∷ ps) w v h e =
+    elim (chosen (bytes_eq w p.0) (done p.1) (listed_in reason ps w) (Ok v) e) [
+      | inl g ↦ subst (λ x. IsTrue (test x)) (ok_is p.1 v g.1) h.0
+      | inr g ↦ listed-passes reason test ps w v h.1 g.1
+    ]
+
+class-passes : (w : List ℕ) (v : Class) → class_in w ≡ Ok v → IsTrue (is_deletable v)
+class-passes w v e = listed-passes Why.Choice is_deletable deletable_classes w v (refl, (refl, (refl, (refl, (refl, tt))))) e
+
+class-again : (v : Class) → IsTrue (is_deletable v) → class_in (class_text v) ≡ Ok v
+class-again Class.Sem h = refl
+class-again Class.Event h = refl
+class-again Class.Mutex h = refl
+class-again Class.Mailbox h = refl
+class-again Class.MsgQueue h = refl
+class-again Class.Thread h = absurd cc
+class-again Class.Timer h = absurd cc
+class-again Class.Device h = absurd cc
+
+mode-takes : (w : List ℕ) (v : Sleep) → mode_in w ≡ Ok v → w ≡ sleep_text v
+mode-takes w v e = listed-takes Why.Choice sleep_text all_modes w v (refl, (refl, (refl, (refl, (refl, (refl, tt)))))) e
+
+mode-again : (v : Sleep) → mode_in (sleep_text v) ≡ Ok v
+mode-again Sleep.NoSleep = refl
+mode-again _ = refl
+
+run-takes : (w : List ℕ) (v : RunMode) → run_in w ≡ Ok v → w ≡ run_mode_text v
+run-takes w v e = listed-takes Why.Choice run_mode_text all_run_modes w v (refl, (refl, (refl, (refl, tt)))) e
+
+run-again : (v : RunMode) → run_in (run_mode_text v) ≡ Ok v
+run-again RunMode.High = refl
+run-again _ = refl
+
+timer_kind-takes : (w : List ℕ) (v : TimerKind) → timer_kind_in w ≡ Ok v → w ≡ timer_kind_text v
+timer_kind-takes w v e = listed-takes Why.Choice timer_kind_text all_timer_kinds w v (refl, (refl, tt)) e
+
+timer_kind-again : (v : TimerKind) → timer_kind_in (timer_kind_text v) ≡ Ok v
+timer_kind-again TimerKind.OneShot = refl
+timer_kind-again _ = refl
+
+-- ---- a name or none
+
+pub ind-takes : (w : List ℕ) (v : Option (List ℕ)) → indicated_in w ≡ Ok v → (w ≡ name_or_dash v) × Fits Indicated v
+ind-takes w v e =
+    elim (chosen (bytes_eq w (codes "-")) (done None) _ (Ok v) e) [
+      | inl h ↦ (let same : None ≡ v = ok_is None v h.1 in subst (λ (u : Option (List ℕ)). (w ≡ name_or_dash u) × Fits Indicated u) same (is_word w (codes "-") h.0, tt))
+      | inr h ↦ (let m = map_ok (λ n. Some n) (name_in w) v h.1 in
+          let k = name-takes w m.0 m.1 in
+          subst (λ (u : Option (List ℕ)). (w ≡ name_or_dash u) × Fits Indicated u) m.2 k)
+    ]
+
+name_no_dash : (n : List ℕ) → is_name n ≡ true → bytes_eq n (codes "-") ≡ false
+name_no_dash n h = false_from_ne_true _ (λ e. both_ways (is_name (codes "-")) refl (ap is_name (sym (is_word n (codes "-") e)) ∙ h))
+
+pub ind-again : (v : Option (List ℕ)) → Fits Indicated v → indicated_in (name_or_dash v) ≡ Ok v
+ind-again None h = refl
+ind-again (Some n) h = unless (bytes_eq n (codes "-")) _ (result_map (λ m. Some m) (name_in n)) (name_no_dash n h) ∙ ap (result_map (λ m. Some m)) (when (is_name n) (done n) (Err Why.Name) h)
+
+pub value-takes : (f : Field) (w : List ℕ) (v : Value f) → list_all is_printable w ≡ true → value_in f w ≡ Ok v → IsTold f v → (w ≡ spelled f v) × Fits f v
+value-takes (Number low high) w v p e t = let k = number-takes low high w v e in (sym k.0, k.1)
+value-takes Levels w v p e t = levels-takes w v e
+value-takes Core w v p e t = (core-takes w v e t, t)
+value-takes Wait w v p e t = wait-takes w v e
+value-takes Named w v p e t = name-takes w v e
+value-takes Quoted w v p e t = text-takes w v p e
+value-takes Ordered w v p e t = (order-takes w v e, tt)
+value-takes Repeated w v p e t = (timer_kind-takes w v e, tt)
+value-takes Armed w v p e t = (choice-takes (codes "auto") (codes "manual") w v e, tt)
+value-takes Started w v p e t = (choice-takes (codes "start") (codes "init") w v e, tt)
+value-takes How w v p e t = (choice-takes (codes "and") (codes "or") w v e, tt)
+value-takes Keep w v p e t = (choice-takes (codes "clear") (codes "keep") w v e, tt)
+value-takes OnOff w v p e t = (choice-takes (codes "on") (codes "off") w v e, tt)
+value-takes Powered w v p e t = (choice-takes (codes "pm") (codes "nopm") w v e, tt)
+value-takes Coded w v p e t = (code-takes w v e, tt)
+value-takes Said w v p e t = (what-takes w v e, tt)
+value-takes Classed w v p e t = (class-takes w v e, class-passes w v e)
+value-takes Moded w v p e t = (mode-takes w v e, tt)
+value-takes Ran w v p e t = (run-takes w v e, tt)
+value-takes Indicated w v p e t = ind-takes w v e
+
+-- digits are no word
+pub not_digits : (n : ℕ) (v : List ℕ) → n < 2 ^ 64 → list_all is_digit v ≡ false → bytes_eq (decimal n) v ≡ false
+not_digits n v lt h = false_from_ne_true _ (λ e. both_ways _ h (ap (list_all is_digit) (sym (is_word (decimal n) v e)) ∙ digits_decimal own n lt))
+
+pub value-again : (f : Field) (v : Value f) → Fits f v → value_in f (spelled f v) ≡ Ok v
+value-again (Number low high) v h = number-again low high v h.0 h.1 h.2
+value-again Levels v h = let t = number_again v (levels_small v h) in rw (t.0, t.1, h) refl
+value-again Core None h = refl
+value-again Core (Some n) h = let t = number_again n (omega (arith, h)) in let small : min n 255 ≡ n = omega (arith, h) in rw (not_digits n (codes "any") (omega (arith, h)) refl, t.0, t.1, small) refl
+value-again Wait None h = refl
+value-again Wait (Some n) h = rw (not_digits n (codes "ever") (omega (arith, h)) refl, number-again 0 2147483647 n (omega arith) (omega (arith, h)) (omega (arith, h))) refl
+value-again Named v h = when (is_name v) (done v) (Err Why.Name) h
+value-again Quoted v h =
+    let read = text-again v (recursion_from_All (λ (b : ℕ). b < 256) v h.1) in
+    ap text_or read ∙ when (is_text v) (done v) (Err Why.Text) h.0
+value-again Ordered v h = order-again v
+value-again Repeated v h = timer_kind-again v
+value-again Armed v h = choice-again (codes "auto") (codes "manual") v refl
+value-again Started v h = choice-again (codes "start") (codes "init") v refl
+value-again How v h = choice-again (codes "and") (codes "or") v refl
+value-again Keep v h = choice-again (codes "clear") (codes "keep") v refl
+value-again OnOff v h = choice-again (codes "on") (codes "off") v refl
+value-again Powered v h = choice-again (codes "pm") (codes "nopm") v refl
+value-again Coded v h = code-again v
+value-again Said v h = what-again v
+value-again Classed v h = class-again v h
+value-again Moded v h = mode-again v
+value-again Ran v h = run-again v
+value-again Indicated v h = ind-again v h

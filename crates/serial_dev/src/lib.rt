@@ -1,0 +1,8 @@
+//! The receive ring and the transmit ring of a serial device, whose memory is taken once.
+#![tactic(auto)]
+
+mod serial;
+#[cfg(test)]
+mod tests;
+
+pub use serial::Serial;

@@ -1,0 +1,4 @@
+pub mod LinkLemmas
+pub mod OrderLemmas
+pub mod TableLemmas
+pub mod PlaceLemmas
