@@ -22,6 +22,7 @@ use std::alloc::Global;
 pub(crate) const STATEMENT_RANK: u8 = 20;
 
 /// All statements. A row has the kind, the word, the value, and the fields with their places.
+#[macro_export]
 macro_rules! statement_rows {
     ($then:ident $levels:tt $($rest:tt)*) => {
         $then! {

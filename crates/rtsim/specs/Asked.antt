@@ -4,7 +4,7 @@ use Rattle.rt_edge.specs.Contents.{Names, IsAbsent, HasGrown}
 use Rattle.rt_plain.specs.Commands.{Command}
 use Rattle.rtsim.specs.Words.{file_of}
 use Rattle.rtsim.specs.Held.{IfHeld, IsHeld, IsLacked, Steady}
-use Rattle.rtsim.specs.Boards.{IsText, IsTooLong, HasBadLine, IsUnbuilt, IsOver}
+use Rattle.rtsim.specs.Boards.{IsText, IsTooLong, HasBadLine, IsUnbuiltRun, IsOverRun}
 use Rattle.rtsim.specs.Endings.{status_of, message}
 use Rattle.rtsim.specs.declared.ending.Ending.{Ending}
 use Rattle.rtsim.specs.declared.ending.Ending.TheVariants.{TooLong, BadLine, NotBuilt, Limited}
@@ -20,9 +20,9 @@ IsMissing None held = ⊥
 IsMissing (Some command) held = IsAbsent held (file_of command)
 
 -- the words are a command, the names are told, and its file is held, and so for what it holds
-abbrev pub AsksFor : Option Command → Option Names → (List ℕ → Type 0) → Type 0
+abbrev pub AsksFor : Option Command → Option Names → (Command → List ℕ → Type 0) → Type 0
 AsksFor None held P = ⊥
-AsksFor (Some command) held P = IsHeld held (file_of command) P
+AsksFor (Some command) held P = IsHeld held (file_of command) (P command)
 
 -- the words are a command, the names are told, and its file isn't held
 abbrev pub AsksForNone : Option Command → Option Names → Type 0
@@ -41,8 +41,8 @@ HasBegun old new command bytes = (text : List ℕ) × (n : ℕ) × IsText comman
 abbrev pub HasCause : Option Command → Option Names → Ending → Type 0
 HasCause asked held TooLong = IfAsked asked held (λ command bytes. IsTooLong bytes)
 HasCause asked held (BadLine line why) = IfAsked asked held (λ command bytes. HasBadLine bytes line why)
-HasCause asked held NotBuilt = IfAsked asked held (λ command bytes. IsUnbuilt bytes)
-HasCause asked held (Limited entries lines) = IfAsked asked held (λ command bytes. IsOver bytes entries lines)
+HasCause asked held NotBuilt = IfAsked asked held IsUnbuiltRun
+HasCause asked held (Limited entries lines) = IfAsked asked held (λ command bytes. IsOverRun command bytes entries lines)
 HasCause asked held _ = Unit {0}
 
 -- a sink got a front of a line, and all of it where no call failed

@@ -2,8 +2,8 @@
 use Rattle.std.specs.Prelude.{◌≡◌, ◌⊎◌, ◌<◌, ◌≤◌, ℕ, List, None, Some, false, true, length, IsSome}
 use Rattle.rt_plain.specs.PlainBoard.{PlainBoard}
 use Rattle.rt_plain.specs.BoardText.{IsBoard, first_bad}
-use Rattle.rt_plain.specs.Commands.{Command, run_of, end_of, run_text, console_text}
-use Rattle.rt_plain.specs.Texts.{trace_text, console_of}
+use Rattle.rt_plain.specs.Canon.{canonical_text}
+use Rattle.rt_plain.specs.Commands.{Command, run_of, run_text, console_text}
 use Rattle.rt_plain.specs.Runs.{Course}
 use Rattle.rt_plain.specs.declared.why.Why.{Why}
 use Rattle.kernel_step.specs.Built.{is_built}
@@ -37,11 +37,28 @@ pub record IsBuiltFile (bytes : List ℕ) (b : PlainBoard) : Type 0 where
   pub file : IsBoardFile bytes b
   pub built : is_built b ≡ true
 
+-- ---- commands
+
+-- the command makes a run of the board
+abbrev pub IsRun : Command → Type 0
+IsRun (Command.Trace file) = Unit {0}
+IsRun (Command.Run file) = Unit {0}
+IsRun _ = ⊥
+
+-- the command shows the board
+abbrev pub IsShow : Command → Type 0
+IsShow (Command.Show file) = Unit {0}
+IsShow _ = ⊥
+
 -- the file's board has something that isn't built yet
 pub record IsUnbuilt (bytes : List ℕ) : Type 0 where
   pub board : PlainBoard
   pub file : IsBoardFile bytes board
   pub unbuilt : is_built board ≡ false
+
+-- the command makes a run of a board that has something that isn't built yet
+abbrev pub IsUnbuiltRun : Command → List ℕ → Type 0
+IsUnbuiltRun command bytes = IsRun command × IsUnbuilt bytes
 
 -- ---- its run by the schedule
 
@@ -57,9 +74,17 @@ pub record IsOver (bytes : List ℕ) (entries lines : ℕ) : Type 0 where
   pub file : IsBuiltFile bytes board
   pub limited : IsLimited board entries lines
 
--- it meets a limit before it halts
-abbrev pub Stops : List ℕ → Type 0
-Stops bytes = (entries : ℕ) × (lines : ℕ) × IsOver bytes entries lines
+-- the command makes a run, which meets a limit before it halts, at so many entries and lines
+abbrev pub IsOverRun : Command → List ℕ → ℕ → ℕ → Type 0
+IsOverRun command bytes entries lines = IsRun command × IsOver bytes entries lines
+
+-- the command makes a run, which meets a limit before it halts
+abbrev pub Stops : Command → List ℕ → Type 0
+Stops command bytes = IsRun command × ((entries : ℕ) × (lines : ℕ) × IsOver bytes entries lines)
+
+-- the command has a text: it makes a run, which halts, or it shows a board
+abbrev pub HasText : Command → List ℕ → Type 0
+HasText command bytes = (IsRun command × Halts bytes) ⊎ (IsShow command × ((b : PlainBoard) × IsBoardFile bytes b))
 
 -- the course is the run of the file's board, which has halted and is complete
 pub record HasRun (bytes : List ℕ) (b : PlainBoard) (c : Course) : Type 0 where
@@ -70,29 +95,43 @@ pub record HasRun (bytes : List ℕ) (b : PlainBoard) (c : Course) : Type 0 wher
 
 -- ---- what a command writes
 
--- of a run
-abbrev pub IsWritten : Command → Course → List ℕ → Type 0
-IsWritten (Command.Trace file) c text = text ≡ trace_text c.journal None (end_of c)
-IsWritten (Command.Run file) c text = text ≡ console_of c.journal
-IsWritten _ c text = ⊥
-
--- of a board
-abbrev pub IsOutput : Command → PlainBoard → List ℕ → Type 0
-IsOutput (Command.Trace file) b text = text ≡ run_text b
-IsOutput (Command.Run file) b text = text ≡ console_text b
-IsOutput _ b text = ⊥
-
--- the text is what the command writes of the file's board, whose run has halted and is complete: each entry is what its event made
-pub record IsText (command : Command) (bytes text : List ℕ) : Type 0 where
+-- a text of the run of the file's board, which has halted and is complete: each entry is what its event made
+pub record IsRunText (text_of : PlainBoard → List ℕ) (bytes text : List ℕ) : Type 0 where
   pub board : PlainBoard
   pub file : IsBuiltFile bytes board
   pub halted : IsSome (run_of board).halt
   pub complete : HasCompleted board (run_of board)
-  pub output : IsOutput command board text
+  pub output : text ≡ text_of board
+
+-- the canonical text of the file's board
+pub record IsShown (bytes text : List ℕ) : Type 0 where
+  pub board : PlainBoard
+  pub file : IsBoardFile bytes board
+  pub output : text ≡ canonical_text board
+
+-- the text is what the command writes of the file
+abbrev pub IsText : Command → List ℕ → List ℕ → Type 0
+IsText (Command.Trace file) bytes text = IsRunText run_text bytes text
+IsText (Command.Run file) bytes text = IsRunText console_text bytes text
+IsText (Command.Show file) bytes text = IsShown bytes text
+IsText _ bytes text = ⊥
 
 -- nothing is written for its cause alone
-abbrev pub IsCauseOf : List ℕ → Refusal → Type 0
-IsCauseOf bytes (Refusal.BadLine line why) = HasBadLine bytes line why
-IsCauseOf bytes Refusal.NotBuilt = IsUnbuilt bytes
-IsCauseOf bytes (Refusal.Limit entries lines) = IsOver bytes entries lines
-IsCauseOf bytes Refusal.Memory = Unit {0}
+abbrev pub IsCauseOf : Command → List ℕ → Refusal → Type 0
+IsCauseOf command bytes (Refusal.BadLine line why) = HasBadLine bytes line why
+IsCauseOf command bytes Refusal.NotBuilt = IsUnbuiltRun command bytes
+IsCauseOf command bytes (Refusal.Limit entries lines) = IsOverRun command bytes entries lines
+IsCauseOf command bytes Refusal.Memory = Unit {0}
+
+-- and of a file that is no board for that alone
+abbrev pub IsCauseOfAll : List ℕ → Refusal → Type 0
+IsCauseOfAll bytes (Refusal.BadLine line why) = HasBadLine bytes line why
+IsCauseOfAll bytes Refusal.Memory = Unit {0}
+IsCauseOfAll bytes _ = ⊥
+
+-- a run isn't made for its cause alone
+abbrev pub IsCauseOfRun : List ℕ → Refusal → Type 0
+IsCauseOfRun bytes (Refusal.BadLine line why) = HasBadLine bytes line why
+IsCauseOfRun bytes Refusal.NotBuilt = IsUnbuilt bytes
+IsCauseOfRun bytes (Refusal.Limit entries lines) = IsOver bytes entries lines
+IsCauseOfRun bytes Refusal.Memory = Unit {0}

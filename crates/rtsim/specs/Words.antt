@@ -5,13 +5,14 @@ use Rattle.std.specs.Str.{bytes_eq}
 use Rattle.std.specs.Option.{option_map_or}
 use Rattle.rt_plain.specs.Commands.{Command}
 use Rattle.rtsim.specs.declared.words.Command.{Command as Asked}
-use Rattle.rtsim.specs.declared.words.Command.TheVariants.{Trace, Run}
+use Rattle.rtsim.specs.declared.words.Command.TheVariants.{Trace, Run, Show}
 
 -- a command of one file
 abbrev pub one_file : List ℕ → List ℕ → Option Command
 one_file name file =
     if bytes_eq name (codes "trace") then Some (Command.Trace file)
     else if bytes_eq name (codes "run") then Some (Command.Run file)
+    else if bytes_eq name (codes "show") then Some (Command.Show file)
     else None
 
 -- the command that the words are
@@ -23,11 +24,13 @@ command_of _ = None
 abbrev pub plain : Asked → Command
 plain (Trace file) = Command.Trace file.now
 plain (Run file) = Command.Run file.now
+plain (Show file) = Command.Show file.now
 
 -- the file that a command of one file names
 abbrev pub file_of : Command → List ℕ
 file_of (Command.Trace file) = file
 file_of (Command.Run file) = file
+file_of (Command.Show file) = file
 file_of _ = []
 
 -- the file that the words name, if they are a command

@@ -14,6 +14,17 @@ const LEADING_ZERO: &[u8] = b"board 1\nthread A 10 10 any start\n  delay 010\n";
 
 const ENDLESS: &[u8] = b"board 1\nentries 5\nthread A 10 10 any start\n  print \"x\"\n  goto 1\n";
 
+// The canonical text of the empty board.
+const EMPTY: &[u8] =
+    b"board 1\ncores 1\nlevels 32\ntickless on\nuntil 4294967295\nentries 1000000\nlpmax 2147483647\nthresh 2\ndefault none\nschedule round\nlimit sem 64\nlimit event 64\nlimit mutex 256\n";
+
+// A board that isn't built yet, and its canonical text.
+const SHELL: &[u8] =
+    b"# none of this is built\nboard 1\n\nuntil 9\nentries 1\nshell 20\narrive 5 console \"ps\\n\"";
+
+const SHOWN: &[u8] =
+    b"board 1\ncores 1\nlevels 32\ntickless on\nuntil 9\nentries 1\nlpmax 2147483647\nthresh 2\ndefault none\nschedule round\nshell 20\nlimit sem 64\nlimit event 64\nlimit mutex 256\narrive 5 console \"ps\\n\"\n";
+
 const TWO_TICKS: &[u8] = b"board 1\nuntil 2\nthread A 10 10 any start\n  print \"x\"\n  goto 1\n";
 
 // What happens outside: the number of the call that fails (0 for none), of the files, of `out` and of `err`; the room of
@@ -80,12 +91,16 @@ fn tell(alloc: Global, words: &[&str], board: &[u8], outside: Outside) -> Result
 
 #[test]
 fn commands_write_their_texts(rt: HostRuntime) -> Result<(), Fail> {
-    let rows: [(&str, &[u8], &[u8]); 5] = [
+    let rows: [(&str, &[u8], &[u8]); 9] = [
         ("trace", b"board 1\n", b"end quiet @0\n"),
         ("run", b"board 1\n", b""),
         ("trace", BOARD, TRACE),
         ("run", BOARD, b"hibye"),
         ("run", TWO_TICKS, b"xxxx"),
+        ("show", b"board 1\n", EMPTY),
+        ("show", EMPTY, EMPTY),
+        ("show", SHELL, SHOWN),
+        ("show", SHOWN, SHOWN),
     ];
     for (command, board, text) in rows {
         let told = tell(rt.alloc(), &[command, "b"], board, GOOD)?;
@@ -100,7 +115,7 @@ fn commands_write_their_texts(rt: HostRuntime) -> Result<(), Fail> {
 
 #[test]
 fn each_refusal_has_its_status_and_its_line(rt: HostRuntime) -> Result<(), Fail> {
-    let rows: [(&[&str], &[u8], u8, &[u8]); 10] = [
+    let rows: [(&[&str], &[u8], u8, &[u8]); 11] = [
         (&["trace"], BOARD, 2, b"rtsim: usage\n"),
         (&["frob", "b"], BOARD, 2, b"rtsim: usage\n"),
         (
@@ -112,6 +127,7 @@ fn each_refusal_has_its_status_and_its_line(rt: HostRuntime) -> Result<(), Fail>
         (&["trace", "b"], b"", 6, b"rtsim: line 1: Head\n"),
         (&["trace", "b"], b"board 2\n", 6, b"rtsim: line 1: Head\n"),
         (&["run", "b"], LEADING_ZERO, 6, b"rtsim: line 3: Number\n"),
+        (&["show", "b"], LEADING_ZERO, 6, b"rtsim: line 3: Number\n"),
         (
             &["run", "b"],
             b"board 1\nsem s 0 fifo\n",

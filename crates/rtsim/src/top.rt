@@ -2,7 +2,7 @@ ghost use Rattle.std.specs.Prelude.{◌≡◌, ◌↔◌, ◌⊎◌, None};
 ghost use Rattle.rt_edge.specs.Counts.{Rose};
 ghost use Rattle.rtsim.specs.Held.{Steady};
 ghost use Rattle.rtsim.specs.Words.{command_of, named_file};
-ghost use Rattle.rtsim.specs.Boards.{IsRefused, IsUnbuilt, Stops, Halts};
+ghost use Rattle.rtsim.specs.Boards.{IsRefused, IsUnbuiltRun, Stops, HasText};
 ghost use Rattle.rtsim.specs.Asked.{IfAsked, IsMissing, AsksFor, AsksForNone, HasWritten, HasBegun, HasCause, TellsEnding};
 
 use crate::ending::Ending;
@@ -53,7 +53,7 @@ fn perform<F: Files, O: Sink>(alloc: Global, words: &[String], files: &mut F, ou
     }
 }
 
-/// Does what the words ask for, `trace FILE` or `run FILE`, and tells the status of the process:
+/// Does what the words ask for, `trace FILE`, `run FILE` or `show FILE`, and tells the status of the process:
 ///
 /// - 0: all was written;
 /// - 2: the words are no command;
@@ -61,9 +61,9 @@ fn perform<F: Files, O: Sink>(alloc: Global, words: &[String], files: &mut F, ou
 /// - 4: the file couldn't be read;
 /// - 5: the text couldn't be written, but for a front of it;
 /// - 6: the file has more than 1,048,576 bytes, or a line that breaks the rules of boards;
-/// - 7: the run meets a limit before it halts;
+/// - 7: the run meets a limit before it halts (not of `show`);
 /// - 9: there was no memory;
-/// - 10: the board has something that isn't built yet.
+/// - 10: the board has something that isn't built yet (not of `show`).
 ///
 /// Each status but 0 has a line on `err`. Whether that line is written changes no status.
 pub fn rtsim<F: Files, O: Sink, E: Sink>(
@@ -83,16 +83,16 @@ pub fn rtsim<F: Files, O: Sink, E: Sink>(
     ensures unwritable { result ≡ 5 → Rose (O.faults out.old) (O.faults out.new) }
     ensures begun { result ≡ 5 → IfAsked (command_of words.now) (F.held files.old) (HasBegun (O.holds out.old) (O.holds out.new)) }
     ensures refused { result ≡ 6 → IfAsked (command_of words.now) (F.held files.old) (λ command bytes. IsRefused bytes) }
-    ensures unbuilt { result ≡ 10 → IfAsked (command_of words.now) (F.held files.old) (λ command bytes. IsUnbuilt bytes) }
-    ensures limited { result ≡ 7 → IfAsked (command_of words.now) (F.held files.old) (λ command bytes. Stops bytes) }
+    ensures unbuilt { result ≡ 10 → IfAsked (command_of words.now) (F.held files.old) IsUnbuiltRun }
+    ensures limited { result ≡ 7 → IfAsked (command_of words.now) (F.held files.old) Stops }
     ensures kept { (result ≡ 0 → ⊥) → (result ≡ 5 → ⊥) → out.new ≡ out.old }
 
     // Where no file failed, each cause has its status, but for want of memory.
     ensures absent_comes { Steady (F.faults files.old) (F.faults files.new) → AsksForNone (command_of words.now) (F.held files.old) → result ≡ 3 }
-    ensures refused_comes { Steady (F.faults files.old) (F.faults files.new) → AsksFor (command_of words.now) (F.held files.old) IsRefused → (result ≡ 6) ⊎ (result ≡ 9) }
-    ensures unbuilt_comes { Steady (F.faults files.old) (F.faults files.new) → AsksFor (command_of words.now) (F.held files.old) IsUnbuilt → (result ≡ 10) ⊎ (result ≡ 9) }
+    ensures refused_comes { Steady (F.faults files.old) (F.faults files.new) → AsksFor (command_of words.now) (F.held files.old) (λ command bytes. IsRefused bytes) → (result ≡ 6) ⊎ (result ≡ 9) }
+    ensures unbuilt_comes { Steady (F.faults files.old) (F.faults files.new) → AsksFor (command_of words.now) (F.held files.old) IsUnbuiltRun → (result ≡ 10) ⊎ (result ≡ 9) }
     ensures limited_comes { Steady (F.faults files.old) (F.faults files.new) → AsksFor (command_of words.now) (F.held files.old) Stops → (result ≡ 7) ⊎ (result ≡ 9) }
-    ensures done_comes { Steady (F.faults files.old) (F.faults files.new) → Steady (O.faults out.old) (O.faults out.new) → AsksFor (command_of words.now) (F.held files.old) Halts → (result ≡ 0) ⊎ (result ≡ 9) }
+    ensures done_comes { Steady (F.faults files.old) (F.faults files.new) → Steady (O.faults out.old) (O.faults out.new) → AsksFor (command_of words.now) (F.held files.old) HasText → (result ≡ 0) ⊎ (result ≡ 9) }
 
     // The status is one of these, and its line was told.
     ensures told { TellsEnding (command_of words.now) (F.held files.old) (named_file words.now) result (E.holds err.old) (E.holds err.new) (E.faults err.old) (E.faults err.new) }

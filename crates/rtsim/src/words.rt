@@ -9,9 +9,11 @@ pub enum Command<'a> {
     Trace(&'a str),
     /// The console of that run.
     Run(&'a str),
+    /// The canonical text of a file's board.
+    Show(&'a str),
 }
 
-/// The command that the words are, if they are one: `trace FILE` or `run FILE`.
+/// The command that the words are, if they are one: `trace FILE`, `run FILE` or `show FILE`.
 pub fn command_of(words: &[String]) -> Option<Command<'_>>
     ensures { option_map plain result ≡ command_of words.now }
 {
@@ -21,6 +23,7 @@ pub fn command_of(words: &[String]) -> Option<Command<'_>>
     match name.as_str() {
         "trace" => Some(Command::Trace(file.as_str())),
         "run" => Some(Command::Run(file.as_str())),
+        "show" => Some(Command::Show(file.as_str())),
         _ => None,
     }
 }
@@ -32,6 +35,7 @@ pub fn file_of<'a>(command: Command<'a>) -> &'a str
     match command {
         Command::Trace(file) => file,
         Command::Run(file) => file,
+        Command::Show(file) => file,
     }
 }
 

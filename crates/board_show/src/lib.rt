@@ -1,0 +1,14 @@
+//! The canonical text of a board.
+#![tactic(auto)]
+
+mod fields;
+pub mod laws;
+mod lines;
+mod showing;
+mod shown;
+mod statements;
+#[cfg(test)]
+mod tests;
+mod writing;
+
+pub use showing::show;

@@ -1,0 +1,132 @@
+//! Writing words and whole lines behind what is there.
+ghost use Rattle.std.specs.Prelude.{◌≡◌, ◌++◌, ◌∷◌, ◌<◌, OnOk, false, map, codes};
+ghost use Rattle.std.specs.Fmt.{decimal, digit_glyph};
+ghost use Rattle.std.specs.List.{flat_map};
+ghost use Rattle.rt_plain.specs.Words.{words};
+ghost use Rattle.rt_plain.specs.Texts.{escape_of, quoted_text, with_newline};
+ghost use Rattle.board_show.specs.Writing.{shown};
+
+use crate::shown::Shown;
+use itoa::Buffer;
+use rt_base::List;
+use std::alloc::AllocError;
+
+pub(crate) fn put(out: &mut List<u8>, bytes: &[u8]) -> Result<(), AllocError>
+    ensures { OnOk result (out.new ≡ out.old ++ bytes.now) }
+{
+    out.extend_from_slice(bytes)
+}
+
+pub(crate) fn put_number(out: &mut List<u8>, n: u64) -> Result<(), AllocError>
+    ensures { OnOk result (out.new ≡ out.old ++ decimal n) }
+{
+    let mut digits = Buffer::new();
+    put(out, digits.format(n).as_bytes())
+}
+
+// A hexadecimal digit.
+fn glyph(digit: u8) -> u8
+    requires { digit < 16 }
+    ensures { result ≡ digit_glyph false digit }
+{
+    if digit < 10 {
+        b'0' + digit
+    } else {
+        b'a' + (digit - 10)
+    }
+}
+
+fn put_escape(out: &mut List<u8>, byte: u8) -> Result<(), AllocError>
+    ensures { OnOk result (out.new ≡ out.old ++ escape_of byte) }
+{
+    if byte == b'"' {
+        return put(out, b"\\\"");
+    }
+    if byte == b'\\' {
+        return put(out, b"\\\\");
+    }
+    if byte == b'\n' {
+        return put(out, b"\\n");
+    }
+    if byte >= 32 && byte <= 126 {
+        return put(out, &[byte]);
+    }
+    put(out, b"\\x")?;
+    put(out, &[glyph(byte / 16), glyph(byte % 16)])
+}
+
+fn put_escapes(out: &mut List<u8>, text: &[u8]) -> Result<(), AllocError>
+    ensures { OnOk result (out.new ≡ out.old ++ flat_map escape_of text.now) }
+{
+    for byte in text {
+        put_escape(out, *byte)?;
+    }
+    Ok(())
+}
+
+fn put_quoted(out: &mut List<u8>, text: &[u8]) -> Result<(), AllocError>
+    ensures { OnOk result (out.new ≡ out.old ++ quoted_text text.now) }
+{
+    put(out, b"\"")?;
+    put_escapes(out, text)?;
+    put(out, b"\"")
+}
+
+fn put_negative(out: &mut List<u8>, n: u8) -> Result<(), AllocError>
+    ensures { OnOk result (out.new ≡ out.old ++ (codes "-" ++ decimal n)) }
+{
+    put(out, b"-")?;
+    put_number(out, u64::from(n))
+}
+
+fn put_shown(out: &mut List<u8>, word: Shown<'_>) -> Result<(), AllocError>
+    ensures { OnOk result (out.new ≡ out.old ++ shown word.entry) }
+{
+    match word {
+        Shown::Word(word) => put(out, word),
+        Shown::Number(n) => put_number(out, u64::from(n)),
+        Shown::Negative(n) => put_negative(out, n),
+        Shown::Quoted(text) => put_quoted(out, text),
+    }
+}
+
+fn put_spaced(out: &mut List<u8>, word: Shown<'_>) -> Result<(), AllocError>
+    ensures { OnOk result (out.new ≡ out.old ++ 32 ∷ shown word.entry) }
+{
+    put(out, b" ")?;
+    put_shown(out, word)
+}
+
+fn put_others(out: &mut List<u8>, others: &[Shown<'_>]) -> Result<(), AllocError>
+    ensures { OnOk result (out.new ≡ out.old ++ flat_map (λ word. 32 ∷ shown word) others.now) }
+{
+    for word in others {
+        put_spaced(out, *word)?;
+    }
+    Ok(())
+}
+
+// The first word and the others, with one space between each two.
+#[tactic(auto, using(crate::proofs::Joins::words_are))]
+pub(crate) fn put_words(
+    out: &mut List<u8>,
+    first: &[u8],
+    others: &[Shown<'_>],
+) -> Result<(), AllocError>
+    ensures { OnOk result (out.new ≡ out.old ++ words (first.now ∷ map shown others.now)) }
+{
+    put(out, first)?;
+    put_others(out, others)
+}
+
+// A line of these words, and its newline.
+pub(crate) fn put_line(
+    out: &mut List<u8>,
+    first: &[u8],
+    others: &[Shown<'_>],
+) -> Result<(), AllocError>
+    ensures { OnOk result (out.new ≡ out.old ++ with_newline (words (first.now ∷ map shown others.now))) }
+{
+    put_words(out, first, others)?;
+    put(out, b"\n")
+}
