@@ -27,6 +27,9 @@ const SHOWN: &[u8] =
 
 const TWO_TICKS: &[u8] = b"board 1\nuntil 2\nthread A 10 10 any start\n  print \"x\"\n  goto 1\n";
 
+// A statement of 62 bytes.
+const PRINT: &[u8] = b"  print \"012345678901234567890123456789012345678901234567890\"\n";
+
 // What happens outside: the number of the call that fails (0 for none), of the files, of `out` and of `err`; the room of
 // `out`, and the most bytes that one call moves.
 #[derive(Clone, Copy)]
@@ -181,6 +184,53 @@ fn a_board_has_at_most_1048576_bytes(rt: HostRuntime) -> Result<(), Fail> {
     let told = tell(rt.alloc(), &["trace", "b"], &longer, wide)?;
     assert_eq!(rt; told.status, 6);
     assert!(rt; told.err.bytes() == b"rtsim: board too long\n".as_slice());
+    Ok(())
+}
+
+// The settings, 33 threads that print 512 times each, 1,048,377 bytes, and the last line.
+fn talkative(alloc: Global, settings: &[u8], last: &[u8]) -> Result<Vec<u8>, AllocError> {
+    let mut board = Vec::from_slice(alloc, settings)?;
+    for name in b"ABCDEFGHIJKLMNOPQRSTUVWXYZabcdefg" {
+        board.extend_from_slice(b"thread ")?;
+        board.push(*name)?;
+        board.extend_from_slice(b" 10 10 any start\n")?;
+        for _ in 0..512 {
+            board.extend_from_slice(PRINT)?;
+        }
+    }
+    board.extend_from_slice(last)?;
+    Ok(board)
+}
+
+// What is shown is longer by the settings. It is read again up to the size of a board.
+#[test]
+fn the_longest_shown_board_is_read_again(rt: HostRuntime) -> Result<(), Fail> {
+    let rows: [(&[u8], usize, u8, &[u8]); 2] = [
+        (b"arrive 1 console \"0123456789\"\n", 1_048_576, 0, b""),
+        (
+            b"arrive 1 console \"0123456789a\"\n",
+            1_048_577,
+            6,
+            b"rtsim: board too long\n",
+        ),
+    ];
+    let wide = Outside {
+        room: 1_048_577,
+        most: 4096,
+        ..GOOD
+    };
+    for (last, bytes, status, line) in rows {
+        let board = talkative(rt.alloc(), b"board 1\n", last)?;
+        let shown = talkative(rt.alloc(), EMPTY, last)?;
+        assert_eq!(rt; shown.len(), bytes);
+        let told = tell(rt.alloc(), &["show", "b"], &board, wide)?;
+        assert_eq!(rt; told.status, 0);
+        assert!(rt; told.out.bytes() == shown.as_slice());
+        let again = tell(rt.alloc(), &["show", "b"], &shown, wide)?;
+        assert_eq!(rt; again.status, status);
+        assert!(rt; again.err.bytes() == line);
+        assert!(rt; status == 6 || again.out.bytes() == shown.as_slice());
+    }
     Ok(())
 }
 
