@@ -1,5 +1,5 @@
 -- A canonical text is that of one board.
-use Rattle.std.proofs.Common.{◌≡◌, ℕ, ◌≤◌, List, length, Result, Ok, sym, ap, subst}
+use Rattle.std.proofs.Common.{◌≡◌, ℕ, ◌≤◌, List, length, Result, Ok, sym, subst}
 use Rattle.rt_plain.specs.PlainBoard.{PlainBoard}
 use Rattle.rt_plain.specs.BoardText.{IsBoard}
 use Rattle.rt_plain.specs.Canon.{IsValid, canonical_text}

@@ -1,4 +1,3 @@
-use Rattle.std.proofs.Common.{◌≡◌}
 use Rattle.rt_plain.specs.declared.stmt.Call.{Call}
 use Rattle.board_show.proofs.Spelled.{call_is}
 use Rattle.board_show.proofs.statements.put_call.Goals as goal

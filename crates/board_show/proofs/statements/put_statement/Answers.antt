@@ -1,4 +1,3 @@
-use Rattle.std.proofs.Common.{◌≡◌}
 use Rattle.rt_plain.specs.declared.stmt.Stmt.{Stmt}
 use Rattle.board_show.proofs.Spelled.{statement_is_known, call_statement}
 use Rattle.board_show.proofs.statements.put_statement.Goals as goal
