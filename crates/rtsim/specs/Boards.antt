@@ -116,22 +116,20 @@ IsText (Command.Run file) bytes text = IsRunText console_text bytes text
 IsText (Command.Show file) bytes text = IsShown bytes text
 IsText _ bytes text = ⊥
 
--- nothing is written for its cause alone
+-- no board is read, for its cause alone
+abbrev pub IsNoBoard : List ℕ → Refusal → Type 0
+IsNoBoard bytes (Refusal.BadLine line why) = HasBadLine bytes line why
+IsNoBoard bytes Refusal.Memory = Unit {0}
+IsNoBoard bytes _ = ⊥
+
+-- a run isn't made, for its cause alone
+abbrev pub IsNoRun : List ℕ → Refusal → Type 0
+IsNoRun bytes Refusal.NotBuilt = IsUnbuilt bytes
+IsNoRun bytes (Refusal.Limit entries lines) = IsOver bytes entries lines
+IsNoRun bytes refusal = IsNoBoard bytes refusal
+
+-- nothing is written, for its cause alone
 abbrev pub IsCauseOf : Command → List ℕ → Refusal → Type 0
-IsCauseOf command bytes (Refusal.BadLine line why) = HasBadLine bytes line why
 IsCauseOf command bytes Refusal.NotBuilt = IsUnbuiltRun command bytes
 IsCauseOf command bytes (Refusal.Limit entries lines) = IsOverRun command bytes entries lines
-IsCauseOf command bytes Refusal.Memory = Unit {0}
-
--- and of a file that is no board for that alone
-abbrev pub IsCauseOfAll : List ℕ → Refusal → Type 0
-IsCauseOfAll bytes (Refusal.BadLine line why) = HasBadLine bytes line why
-IsCauseOfAll bytes Refusal.Memory = Unit {0}
-IsCauseOfAll bytes _ = ⊥
-
--- a run isn't made for its cause alone
-abbrev pub IsCauseOfRun : List ℕ → Refusal → Type 0
-IsCauseOfRun bytes (Refusal.BadLine line why) = HasBadLine bytes line why
-IsCauseOfRun bytes Refusal.NotBuilt = IsUnbuilt bytes
-IsCauseOfRun bytes (Refusal.Limit entries lines) = IsOver bytes entries lines
-IsCauseOfRun bytes Refusal.Memory = Unit {0}
+IsCauseOf command bytes refusal = IsNoBoard bytes refusal

@@ -3,7 +3,7 @@ ghost use Rattle.rt_plain.specs.Commands.{end_of, run_text, console_text};
 ghost use Rattle.rt_plain.specs.Texts.{trace_text, console_of};
 ghost use Rattle.journal.specs.Ending.{ending};
 ghost use Rattle.rtsim.specs.Words.{plain};
-ghost use Rattle.rtsim.specs.Boards.{IsBoardFile, HasRun, IsRunText, IsShown, IsText, IsCauseOf, IsCauseOfAll, IsCauseOfRun};
+ghost use Rattle.rtsim.specs.Boards.{IsBoardFile, HasRun, IsRunText, IsShown, IsText, IsCauseOf, IsNoBoard, IsNoRun};
 
 use crate::words::Command;
 use board_show::show;
@@ -41,7 +41,7 @@ fn end_of(machine: &Machine) -> Option<(Halt, u32)>
 fn board_of(alloc: Global, bytes: &[u8]) -> Result<Board, Refusal>
     requires { length bytes.now ≤ 1048576 }
     ensures board { IfOk result (IsBoardFile bytes.now) }
-    ensures cause { IfErr result (IsCauseOfAll bytes.now) }
+    ensures cause { IfErr result (IsNoBoard bytes.now) }
 {
     match parse(alloc, bytes) {
         Ok(board) => Ok(board),
@@ -55,7 +55,7 @@ fn board_of(alloc: Global, bytes: &[u8]) -> Result<Board, Refusal>
 fn ran(alloc: Global, bytes: &[u8]) -> Result<Machine, Refusal>
     requires { length bytes.now ≤ 1048576 }
     ensures run { IfOk result (λ machine. HasRun bytes.now machine.board machine.course) }
-    ensures cause { IfErr result (IsCauseOfRun bytes.now) }
+    ensures cause { IfErr result (IsNoRun bytes.now) }
 {
     let board = board_of(alloc, bytes)?;
     match run(alloc, board) {
@@ -77,7 +77,7 @@ fn trace_of(alloc: Global, machine: &Machine) -> Result<List<u8>, AllocError>
 fn traced(alloc: Global, bytes: &[u8]) -> Result<List<u8>, Refusal>
     requires { length bytes.now ≤ 1048576 }
     ensures text { IfOk result (IsRunText run_text bytes.now) }
-    ensures cause { IfErr result (IsCauseOfRun bytes.now) }
+    ensures cause { IfErr result (IsNoRun bytes.now) }
 {
     let machine = ran(alloc, bytes)?;
     match trace_of(alloc, &machine) {
@@ -97,7 +97,7 @@ fn console_of(alloc: Global, machine: &Machine) -> Result<List<u8>, AllocError>
 fn printed(alloc: Global, bytes: &[u8]) -> Result<List<u8>, Refusal>
     requires { length bytes.now ≤ 1048576 }
     ensures text { IfOk result (IsRunText console_text bytes.now) }
-    ensures cause { IfErr result (IsCauseOfRun bytes.now) }
+    ensures cause { IfErr result (IsNoRun bytes.now) }
 {
     let machine = ran(alloc, bytes)?;
     match console_of(alloc, &machine) {
@@ -110,7 +110,7 @@ fn printed(alloc: Global, bytes: &[u8]) -> Result<List<u8>, Refusal>
 fn shown(alloc: Global, bytes: &[u8]) -> Result<List<u8>, Refusal>
     requires { length bytes.now ≤ 1048576 }
     ensures text { IfOk result (IsShown bytes.now) }
-    ensures cause { IfErr result (IsCauseOfAll bytes.now) }
+    ensures cause { IfErr result (IsNoBoard bytes.now) }
 {
     let board = board_of(alloc, bytes)?;
     match show(alloc, &board) {
