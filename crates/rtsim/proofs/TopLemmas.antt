@@ -1,12 +1,11 @@
 -- A cause leaves one status, but for want of memory.
-use Rattle.std.proofs.Common.{◌≡◌, ◌∙◌, ◌⊎◌, inl, inr, ℕ, List, Option, Some, None, IsSome, true, false, sym, subst, ap, refl, arith}
+use Rattle.std.proofs.Common.{◌≡◌, ◌⊎◌, inl, inr, ℕ, List, Option, Some, None, IsSome, true, false, subst, refl, arith}
 use Rattle.rt_base.specs.declared.codes.Halt.{Halt}
 use Rattle.rt_edge.specs.Contents.{Names}
 use Rattle.rt_plain.specs.PlainBoard.{PlainBoard}
 use Rattle.rt_plain.specs.BoardText.{IsBoard, first_bad}
 use Rattle.rt_plain.specs.Commands.{Command, run_of}
 use Rattle.kernel_step.specs.Built.{is_built}
-use Rattle.kernel_step.specs.Ends.{IsLimited}
 use Rattle.rtsim.specs.Boards.{IsRun, IsShow, IsBoardFile, IsBuiltFile, IsTooLong, HasBadLine, IsRefused, IsUnbuilt, IsUnbuiltRun, IsText, IsRunText, IsOver, IsOverRun, Halts, Stops, HasText}
 use Rattle.rtsim.specs.Asked.{IfAsked, IsMissing, AsksFor, HasWritten, HasBegun, HasCause}
 use Rattle.rtsim.specs.Endings.{status_of}

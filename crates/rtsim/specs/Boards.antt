@@ -1,5 +1,5 @@
 -- What a command makes of the board of a file.
-use Rattle.std.specs.Prelude.{◌≡◌, ◌⊎◌, ◌<◌, ◌≤◌, ℕ, List, None, Some, false, true, length, IsSome}
+use Rattle.std.specs.Prelude.{◌≡◌, ◌⊎◌, ◌<◌, ◌≤◌, ℕ, List, Some, false, true, length, IsSome}
 use Rattle.rt_plain.specs.PlainBoard.{PlainBoard}
 use Rattle.rt_plain.specs.BoardText.{IsBoard, first_bad}
 use Rattle.rt_plain.specs.Canon.{canonical_text}

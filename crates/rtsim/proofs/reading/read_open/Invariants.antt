@@ -1,4 +1,4 @@
-use Rattle.std.proofs.Common.{◌≡◌, ◌-◌, ◌+◌, ◌≤◌, vec_len}
+use Rattle.std.proofs.Common.{◌-◌, ◌+◌, ◌≤◌, vec_len}
 use Rattle.rtsim.specs.Reads.{IsReading}
 use Rattle.rtsim.proofs.reading.read_open.Given as goal
 

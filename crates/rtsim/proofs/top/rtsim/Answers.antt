@@ -1,7 +1,7 @@
 use Rattle.std.proofs.Common.{◌≡◌, ◌⊎◌, ◌∙◌, ℕ, ap, subst, sym}
 use Rattle.rtsim.specs.Endings.{message}
 use Rattle.rtsim.proofs.SaidLemmas.{said}
-use Rattle.rtsim.proofs.TopLemmas.{IsCaused, TextLaws, refused-comes, unbuilt-comes, limited-comes, done-comes, refused-by}
+use Rattle.rtsim.proofs.TopLemmas.{refused-comes, unbuilt-comes, limited-comes, done-comes, refused-by}
 use Rattle.rtsim.proofs.top.rtsim.Goals as goal
 
 pub returns-clause-refused : goal.returns-clause-refused
