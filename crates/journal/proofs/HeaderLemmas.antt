@@ -1,17 +1,20 @@
 -- A journal kept as headers and one list of lines: how it grows, and how it is read.
-use Rattle.std.proofs.Common.{◌≡◌, ℕ, zero, suc, ◌+◌, ◌<◌, ◌≤◌, List, [], ◌∷◌, ◌++◌, Option, Some, length, take, drop, refl, sym, ap, subst, arith, ◌∙◌}
-use Rattle.std.specs.Prelude.{slice_get, flat_map}
-use Rattle.std.proofs.lemmas.List.{length-drop, take-append-le, drop-append-le, take-append-drop}
-use Rattle.std.proofs.lemmas.List.Sums.{sum_by-cons}
+use Rattle.std.proofs.Common.{◌≡◌, ℕ, zero, suc, ◌+◌, ◌<◌, ◌≤◌, List, [], ◌∷◌, ◌++◌, Option, Some, length, take, drop, get_or, refl, sym, ap, subst, arith, ◌∙◌}
+use Rattle.std.specs.Prelude.{slice_get, flat_map, All}
+use Rattle.std.specs.List.{AllByRecursion}
+use Rattle.std.proofs.lemmas.List.{length-drop, take-append-le, drop-append-le, take-append-drop, take-take, drop-take, drop-drop}
+use Rattle.std.proofs.lemmas.List.Elements.{recursion_from_All, All-from_recursion}
+use Rattle.std.proofs.lemmas.List.Sums.{sum_by-cons, sum_by-take-drop}
 use Rattle.std.proofs.lemmas.Grind.{common_steps, flat_map-append}
 use Rattle.rt_base.specs.declared.codes.Event.{Event}
 use Rattle.rt_plain.specs.declared.line.Line.{Line}
 use Rattle.rt_plain.specs.declared.entry.Entry.{Entry}
 use Rattle.rt_plain.specs.Runs.{line_count}
 use Rattle.rt_plain.specs.Texts.{printed_by, console_of}
+use Rattle.rt_plain.specs.TraceRows.{CanShow, CanStand, CanBeWritten}
 use Rattle.journal.specs.Seen.{IsEntryAt, lines_of}
 use Rattle.journal.specs.declared.header.Header.{Header}
-use Rattle.journal.specs.Headers.{entries_of, lines_in, StandFrom}
+use Rattle.journal.specs.Headers.{entries_of, lines_in, StandFrom, CanHead}
 
 -- no lines where their number is 0
 nothing : (lines : List Line) → 0 ≡ length lines → lines ≡ []
@@ -102,3 +105,65 @@ lines_in-push (x ∷ headers) h =
     let sum : lines_in (x ∷ headers) ≡ x.count + lines_in headers = sum_by-cons (λ (h : Header). h.count) x headers in
     let more : lines_in (x ∷ (headers ++ h ∷ [])) ≡ x.count + lines_in (headers ++ h ∷ []) = sum_by-cons (λ (h : Header). h.count) x (headers ++ h ∷ []) in
     more ∙ omega (arith, sum, lines_in-push headers h)
+
+-- the entries of headers and lines that can be written can be written
+shown-take : (n : ℕ) (ls : List Line) → AllByRecursion CanShow ls → AllByRecursion CanShow (take n ls)
+shown-take zero ls g = tt
+shown-take (suc n) [] g = tt
+shown-take (suc n) (l ∷ ls) g = (g.0, shown-take n ls g.1)
+
+shown-drop : (n : ℕ) (ls : List Line) → AllByRecursion CanShow ls → AllByRecursion CanShow (drop n ls)
+shown-drop zero ls g = g
+shown-drop (suc n) [] g = tt
+shown-drop (suc n) (l ∷ ls) g = shown-drop n ls g.1
+
+written-entries_of : (headers : List Header) (lines : List Line) → AllByRecursion CanHead headers → AllByRecursion CanShow lines → AllByRecursion CanStand (entries_of headers lines)
+written-entries_of [] lines h g = tt
+written-entries_of (x ∷ headers) lines h g =
+    (record { event = h.0.0; tick = h.0.1; lines = All-from_recursion CanShow (take x.count lines) (shown-take x.count lines g) }, written-entries_of headers (drop x.count lines) h.1 (shown-drop x.count lines g))
+
+pub can_be_written : (headers : List Header) (lines : List Line) → length headers ≤ 4294967295 → All CanHead headers → All CanShow lines → CanBeWritten (entries_of headers lines)
+can_be_written headers lines few h g = record {
+  few = omega (arith, length-entries_of headers lines);
+  entries = All-from_recursion CanStand (entries_of headers lines) (written-entries_of headers lines (recursion_from_All CanHead headers h) (recursion_from_All CanShow lines g));
+}
+
+-- ---- the entries before and behind a place
+
+-- the first line of a header stands behind those of the headers before it
+first-line : (place : ℕ) (headers : List Header) (at : ℕ) (d : Header) → StandFrom place headers → at < length headers → (get_or headers at d).first ≡ place + lines_in (take at headers)
+first-line place [] at d stand lt = absurd (omega arith)
+first-line place (x ∷ headers) zero d stand lt = stand.0 ∙ omega arith
+first-line place (x ∷ headers) (suc at) d stand lt =
+    let sum : lines_in (x ∷ take at headers) ≡ x.count + lines_in (take at headers) = sum_by-cons (λ (h : Header). h.count) x (take at headers) in
+    omega (arith, first-line (place + x.count) headers at d stand.1 (omega arith), sum)
+
+pub first-from : (headers : List Header) (at : ℕ) (d : Header) → StandFrom 0 headers → at < length headers → (get_or headers at d).first ≡ lines_in (take at headers)
+first-from headers at d stand lt = omega (arith, first-line 0 headers at d stand lt)
+
+-- the lines of the first headers are among all
+pub lines-before : (headers : List Header) (at : ℕ) → lines_in (take at headers) + lines_in (drop at headers) ≡ lines_in headers
+lines-before headers at = sum_by-take-drop (λ (h : Header). h.count) headers at
+
+pub entries-before : (at : ℕ) (headers : List Header) (lines : List Line) → entries_of (take at headers) (take (lines_in (take at headers)) lines) ≡ take at (entries_of headers lines)
+entries-before zero headers lines = refl
+entries-before (suc at) [] lines = refl
+entries-before (suc at) (x ∷ headers) lines =
+    let m = lines_in (take at headers) in
+    let sum : lines_in (x ∷ take at headers) ≡ x.count + m = sum_by-cons (λ (h : Header). h.count) x (take at headers) in
+    let front : take x.count (take (x.count + m) lines) ≡ take x.count lines = take-take x.count (x.count + m) lines (omega arith) in
+    let rest : drop x.count (take (x.count + m) lines) ≡ take m (drop x.count lines) = drop-take x.count m lines in
+    ap (λ (n : ℕ). entries_of (x ∷ take at headers) (take n lines)) sum
+    ∙ ap (λ (ls : List Line). record { event = x.event; tick = x.tick; lines = ls } ∷ entries_of (take at headers) (drop x.count (take (x.count + m) lines))) front
+    ∙ ap (λ (ls : List Line). record { event = x.event; tick = x.tick; lines = take x.count lines } ∷ entries_of (take at headers) ls) rest
+    ∙ ap (λ (es : List Entry). record { event = x.event; tick = x.tick; lines = take x.count lines } ∷ es) (entries-before at headers (drop x.count lines))
+
+pub entries-behind : (at : ℕ) (headers : List Header) (lines : List Line) → entries_of (drop at headers) (drop (lines_in (take at headers)) lines) ≡ drop at (entries_of headers lines)
+entries-behind zero headers lines = refl
+entries-behind (suc at) [] lines = refl
+entries-behind (suc at) (x ∷ headers) lines =
+    let m = lines_in (take at headers) in
+    let sum : lines_in (x ∷ take at headers) ≡ x.count + m = sum_by-cons (λ (h : Header). h.count) x (take at headers) in
+    ap (λ (n : ℕ). entries_of (drop at headers) (drop n lines)) sum
+    ∙ ap (entries_of (drop at headers)) (sym (drop-drop m x.count lines))
+    ∙ entries-behind at headers (drop x.count lines)

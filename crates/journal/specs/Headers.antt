@@ -1,7 +1,8 @@
 -- A journal as it is kept: headers, and one list of all lines.
-use Rattle.std.specs.Prelude.{◌≡◌, ◌+◌, ◌-◌, ◌^◌, ℕ, List, [], ◌∷◌, take, drop, sum_by, min}
+use Rattle.std.specs.Prelude.{◌≡◌, ◌+◌, ◌-◌, ◌^◌, ◌<◌, ℕ, List, [], ◌∷◌, take, drop, sum_by, min}
 use Rattle.rt_plain.specs.declared.entry.Entry.{Entry}
 use Rattle.rt_plain.specs.declared.line.Line.{Line}
+use Rattle.rt_plain.specs.TraceRows.{CanHappen}
 use Rattle.journal.specs.declared.header.Header.{Header}
 
 -- each header has the next lines
@@ -18,6 +19,10 @@ lines_in headers = sum_by (λ h. h.count) headers
 abbrev pub StandFrom : ℕ → List Header → Type 0
 StandFrom place [] = Unit {0}
 StandFrom place (h ∷ headers) = (h.first ≡ place) × StandFrom (place + h.count) headers
+
+-- what stands in a header can be written
+abbrev pub CanHead : Header → Type 0
+CanHead h = CanHappen h.event × (h.tick < 2 ^ 32)
 
 -- how many more fit, of a list of at most 4,294,967,295 items
 abbrev pub room_left : ℕ → ℕ → ℕ

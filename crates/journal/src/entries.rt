@@ -1,13 +1,16 @@
 ghost use Rattle.std.specs.Prelude.{◌≡◌, ◌+◌, ◌<◌, ◌≤◌, ◌++◌, [], ◌∷◌, length, slice_get, Some, OnOk, OnErr};
 ghost use Rattle.rt_plain.specs.Runs.{line_count};
-ghost use Rattle.rt_plain.specs.Texts.{entries_text, console_of};
+ghost use Rattle.rt_plain.specs.Texts.{body_text, console_of};
+ghost use Rattle.rt_plain.specs.TraceRows.{CanBeWritten, StandsIn};
+ghost use Rattle.journal.specs.Ending.{cut_of};
 ghost use Rattle.journal.specs.Seen.{IsEntryAt, lines_of};
 
 use crate::consoles::put_printed;
 use crate::header::Header;
-use crate::traces::put_all;
+use crate::traces::put_body;
 use rt_base::{Event, List};
-use rt_plain::{Line, Lines};
+use rt_plain::shown::know_event;
+use rt_plain::{Cut, Line, Lines};
 use std::alloc::{AllocError, Global};
 use std::marker::Model;
 
@@ -29,7 +32,9 @@ impl Model for Journal {
 
     ghost Value = { JournalSeen };
 
-    ghost use Rattle.journal.specs.Headers.{entries_of, lines_in, StandFrom, room_left};
+    ghost use Rattle.std.specs.Prelude.{All};
+    ghost use Rattle.rt_plain.specs.TraceRows.{CanShow};
+    ghost use Rattle.journal.specs.Headers.{entries_of, lines_in, StandFrom, CanHead, room_left};
 
     ghost view = { λ j. record {
       entries = entries_of j.headers.items j.lines.items;
@@ -41,7 +46,9 @@ impl Model for Journal {
         (lines_in j.headers.items ≡ length j.lines.items)
         × StandFrom 0 j.headers.items
         × (vec_len j.headers ≤ 4294967295)
-        × (vec_len j.lines ≤ 4294967295) };
+        × (vec_len j.lines ≤ 4294967295)
+        × All CanHead j.headers.items
+        × All CanShow j.lines.items };
 }
 
 impl Journal {
@@ -85,10 +92,11 @@ impl Journal {
         )
     }
 
-    /// How many entries there are.
-    #[tactic(auto, using(crate::proofs::HeaderLemmas::counts))]
+    /// How many entries there are. The type keeps that they can be written.
+    #[tactic(auto, using(crate::proofs::HeaderLemmas::counts, crate::proofs::HeaderLemmas::can_be_written))]
     pub fn entries(&self) -> u32
-        ensures { result ≡ length self.now.entries }
+        ensures count { result ≡ length self.now.entries }
+        ensures written { CanBeWritten self.now.entries }
     {
         self.headers.len() as u32
     }
@@ -111,6 +119,7 @@ impl Journal {
         ensures empty { lines.new.items ≡ [] }
         ensures room { lines.new.room ≡ lines.old.room }
     {
+        know_event(&event);
         let first = self.lines.len() as u32;
         let count = lines.len() as u32;
         lines.move_to(&mut self.lines);
@@ -139,11 +148,12 @@ impl Journal {
         &self.lines[at as usize]
     }
 
-    // Adds the text of the entries at the end.
-    pub(crate) fn put_entries(&self, out: &mut List<u8>) -> Result<(), AllocError>
-        ensures { OnOk result (out.new ≡ out.old ++ entries_text 1 self.now.entries) }
+    // Adds the text of the entries at the end, with the `cut` line where it stands.
+    pub(crate) fn put_entries(&self, out: &mut List<u8>, cut: Option<&Cut>) -> Result<(), AllocError>
+        requires { StandsIn self.now.entries (cut_of cut) }
+        ensures { OnOk result (out.new ≡ out.old ++ body_text self.now.entries (cut_of cut.entry)) }
     {
-        put_all(out, &self.headers, &self.lines)
+        put_body(out, &self.headers, &self.lines, cut)
     }
 
     // Adds the bytes of the `print` lines at the end.

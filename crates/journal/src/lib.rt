@@ -4,6 +4,7 @@
 mod consoles;
 mod entries;
 mod header;
+pub mod laws;
 #[cfg(test)]
 mod tests;
 mod traces;
@@ -11,4 +12,5 @@ mod writing;
 
 pub use consoles::console;
 pub use entries::Journal;
+pub use rt_plain::Cut;
 pub use traces::text;

@@ -20,7 +20,7 @@ fn two_entries(alloc: Global) -> Result<Journal, Fail> {
 #[test]
 fn a_journal_is_written(rt: HostRuntime) -> Result<(), Fail> {
     let journal = two_entries(rt.alloc())?;
-    let trace = text(rt.alloc(), &journal, Some((Halt::Until, 8)))?;
+    let trace = text(rt.alloc(), &journal, None, Some((Halt::Until, 8)))?;
     let wanted: &[u8] =
         b"1 c0 @7\n  run A\n  print \"x\\n\"\n  print \"y\"\n2 tick 8\nend until @8\n";
     assert!(rt; trace.as_slice() == wanted);

@@ -1,14 +1,15 @@
-ghost use Rattle.std.specs.Prelude.{◌≡◌, ◌++◌, length, IfOk, OnOk, None};
+ghost use Rattle.std.specs.Prelude.{◌≡◌, ◌+◌, ◌^◌, ◌≤◌, ◌<◌, ◌++◌, ◌∷◌, length, take, flat_map, decimal, Some, IfOk, OnOk};
 ghost use Rattle.rt_plain.specs.Words.{halt_text};
-ghost use Rattle.rt_plain.specs.Texts.{header, with_newline, end_text, entries_text, trace_text};
-ghost use Rattle.journal.specs.Headers.{entries_of, lines_in};
-ghost use Rattle.journal.specs.Ending.{ending};
+ghost use Rattle.rt_plain.specs.Texts.{header, with_newline, cut_text, body_text, end_text, entries_text, trace_text};
+ghost use Rattle.rt_plain.specs.TraceRows.{StandsIn};
+ghost use Rattle.journal.specs.Headers.{entries_of, lines_in, StandFrom};
+ghost use Rattle.journal.specs.Ending.{cut_of, ending};
 
 use crate::Journal;
 use crate::header::Header;
 use crate::writing::{put, put_lines, put_number};
 use rt_base::{Event, Halt, List};
-use rt_plain::Line;
+use rt_plain::{Cut, Line};
 use std::alloc::{AllocError, Global};
 
 // Adds the header line of the entry with this number.
@@ -28,23 +29,98 @@ fn put_header(out: &mut List<u8>, n: usize, event: &Event, tick: u32) -> Result<
     put(out, b"\n")
 }
 
-// Adds the text of the entries of these headers and lines.
-pub(crate) fn put_all(
+// Adds the text of the entries of these headers and lines, of which the first has this number.
+fn put_all(
     out: &mut List<u8>,
+    number: usize,
     headers: &[Header],
     lines: &[Line],
 ) -> Result<(), AllocError>
-    requires { lines_in headers.now ≡ length lines.now }
-    ensures { OnOk result (out.new ≡ out.old ++ entries_text 1 (entries_of headers.now lines.now)) }
+    requires total { lines_in headers.now ≡ length lines.now }
+    requires few { number + length headers.now ≤ 2 ^ 32 }
+    ensures { OnOk result (out.new ≡ out.old ++ entries_text number (entries_of headers.now lines.now)) }
 {
     let mut at = 0;
     for (i, h) in headers.iter().enumerate() {
         let end = at + h.count as usize;
-        put_header(out, i + 1, &h.event, h.tick)?;
+        put_header(out, number + i, &h.event, h.tick)?;
         put_lines(out, &lines[at..end])?;
         at = end;
     }
     Ok(())
+}
+
+// How many of the lines belong to the first headers, up to a place.
+fn lines_before(headers: &[Header], lines: &[Line], place: usize) -> usize
+    requires total { lines_in headers.now ≡ length lines.now }
+    requires stand { StandFrom 0 headers.now }
+    requires within { place ≤ length headers.now }
+    ensures { result ≡ lines_in (take place headers.now) }
+{
+    if place < headers.len() {
+        headers[place].first as usize
+    } else {
+        lines.len()
+    }
+}
+
+fn put_counts(out: &mut List<u8>, counts: &[u32]) -> Result<(), AllocError>
+    ensures { OnOk result (out.new ≡ out.old ++ flat_map (λ n. 32 ∷ decimal n) counts.now) }
+{
+    for n in counts {
+        put(out, b" ")?;
+        put_number(out, *n as u64)?;
+    }
+    Ok(())
+}
+
+// Adds the `cut` line.
+#[tactic(auto, using(crate::proofs::CutLemmas::cut_line))]
+fn put_cut(out: &mut List<u8>, cut: &Cut) -> Result<(), AllocError>
+    ensures { OnOk result (out.new ≡ out.old ++ cut_text cut.now) }
+{
+    put(out, b"cut")?;
+    put_counts(out, cut.counts.as_slice())?;
+    put(out, b"\n")
+}
+
+// Adds the text of the entries of these headers and lines, with the `cut` line behind as many as it says.
+fn put_split(
+    out: &mut List<u8>,
+    headers: &[Header],
+    lines: &[Line],
+    cut: &Cut,
+) -> Result<(), AllocError>
+    requires total { lines_in headers.now ≡ length lines.now }
+    requires stand { StandFrom 0 headers.now }
+    requires few { length headers.now < 2 ^ 32 }
+    requires within { cut.now.at ≤ length headers.now }
+    ensures { OnOk result (out.new ≡ out.old ++ body_text (entries_of headers.now lines.now) (Some cut.now)) }
+{
+    let place = cut.at as usize;
+    let before = lines_before(headers, lines, place);
+    put_all(out, 1, &headers[..place], &lines[..before])?;
+    put_cut(out, cut)?;
+    put_all(out, place + 1, &headers[place..], &lines[before..])
+}
+
+// Adds the text of the entries of these headers and lines, with the `cut` line where there is one.
+pub(crate) fn put_body(
+    out: &mut List<u8>,
+    headers: &[Header],
+    lines: &[Line],
+    cut: Option<&Cut>,
+) -> Result<(), AllocError>
+    requires total { lines_in headers.now ≡ length lines.now }
+    requires stand { StandFrom 0 headers.now }
+    requires few { length headers.now < 2 ^ 32 }
+    requires stands { StandsIn (entries_of headers.now lines.now) (cut_of cut) }
+    ensures { OnOk result (out.new ≡ out.old ++ body_text (entries_of headers.now lines.now) (cut_of cut.entry)) }
+{
+    match cut {
+        None => put_all(out, 1, headers, lines),
+        Some(cut) => put_split(out, headers, lines, cut),
+    }
 }
 
 fn put_halt(out: &mut List<u8>, halt: Halt) -> Result<(), AllocError>
@@ -71,17 +147,19 @@ fn put_end(out: &mut List<u8>, end: Option<(Halt, u32)>) -> Result<(), AllocErro
     Ok(())
 }
 
-/// The text of the trace: the entries, and the end line where an end is given (how the run has halted, and at which
-/// tick). The one refusal is want of memory.
+/// The text of the trace: the entries, the `cut` line behind as many of them as the cut says, where one is given, and
+/// the end line where an end is given (how the run has halted, and at which tick). The one refusal is want of memory.
 pub fn text(
     alloc: Global,
     journal: &Journal,
+    cut: Option<&Cut>,
     end: Option<(Halt, u32)>,
 ) -> Result<List<u8>, AllocError>
-    ensures { IfOk result (λ text. text ≡ trace_text journal.now.entries None (ending end)) }
+    requires { StandsIn journal.now.entries (cut_of cut) }
+    ensures { IfOk result (λ text. text ≡ trace_text journal.now.entries (cut_of cut.entry) (ending end)) }
 {
     let mut out = List::new(alloc);
-    journal.put_entries(&mut out)?;
+    journal.put_entries(&mut out, cut)?;
     put_end(&mut out, end)?;
     Ok(out)
 }

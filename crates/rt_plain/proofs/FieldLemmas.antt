@@ -1,11 +1,12 @@
 -- A field's value has one spelling: what is read is spelled so, and what is spelled is read.
-use Rattle.std.proofs.Common.{◌≡◌, ℕ, not, drop, get_or, ◌<◌, ◌≤◌, ◌^◌, min, Bool, true, false, ◌&&◌, ◌||◌, eqb, leb, ltb, cond, List, [], ◌∷◌, length, Option, Some, None, Result, Ok, Err, refl, sym, ap, ◌∙◌, subst, arith, decimal, codes, inl, inr, ◌⊎◌}
+use Rattle.std.proofs.Common.{◌≡◌, ℕ, not, drop, get_or, ◌<◌, ◌≤◌, ◌^◌, min, Bool, true, false, ◌&&◌, ◌||◌, eqb, leb, ltb, cond, List, [], ◌∷◌, ◌++◌, length, Option, Some, None, Result, Ok, Err, refl, sym, ap, ◌∙◌, subst, arith, decimal, codes, inl, inr, ◌⊎◌}
 use Rattle.std.specs.Prelude.{IsTrue, bytes_eq}
 use Rattle.std.specs.List.{list_all}
 use Rattle.std.specs.Fmt.{digits}
-use Rattle.std.proofs.lemmas.Bool.{and_parts, and_from, or_cases, eqb-true, leb-true, le-leb, ltb-true, lt-ltb, ne_eqb, eqb-false, not_from_false, cases_Bool, false_from_ne_true, both_ways}
+use Rattle.std.proofs.lemmas.Bool.{and_parts, and_from, or_cases, eqb-true, eq-eqb, leb-true, le-leb, ltb-true, lt-ltb, ne_eqb, eqb-false, not_from_false, cases_Bool, false_from_ne_true, both_ways}
 use Rattle.std.proofs.lemmas.Fmt.{digits_decimal}
 use Rattle.std.proofs.lemmas.Slice.Eq.{bytes_eq-Decides}
+use Rattle.std.proofs.lemmas.List.Folds.{list_all-append}
 use Rattle.std.proofs.lemmas.List.Elements.{recursion_from_All, All-from_recursion}
 use Rattle.rt_base.specs.Grammar.{is_name, is_text}
 use Rattle.rt_base.specs.declared.codes.Code.{Code}
@@ -14,13 +15,15 @@ use Rattle.rt_base.specs.declared.codes.Sleep.{Sleep}
 use Rattle.rt_base.specs.declared.codes.RunMode.{RunMode}
 use Rattle.rt_base.specs.declared.codes.WaitOrder.{WaitOrder}
 use Rattle.rt_plain.specs.declared.board.TimerKind.{TimerKind}
+use Rattle.rt_plain.specs.declared.line.Woke.{Woke}
+use Rattle.rt_plain.specs.declared.line.Fired.{Fired}
 use Rattle.rt_plain.specs.declared.stmt.What.{What}
 use Rattle.rt_plain.specs.declared.why.Why.{Why}
 use Rattle.rt_plain.specs.declared.quote.Quoting.TheVariants.{Plain}
 use Rattle.rt_plain.specs.Words.{code_text, sleep_text, run_mode_text, order_text, class_text}
-use Rattle.rt_plain.specs.Texts.{quoted_text}
+use Rattle.rt_plain.specs.Texts.{quoted_text, code_or_wait, woke_text, fired_text}
 use Rattle.rt_plain.specs.Splits.{is_printable}
-use Rattle.rt_plain.specs.Fields.{Field, Number, Levels, Core, Wait, Named, Indicated, Quoted, Coded, Ordered, Said, Classed, Moded, Ran, Repeated, Started, Armed, How, Keep, OnOff, Powered, Value, Fits, spelled, value_in, listed_in, all_codes, all_orders, all_whats, deletable_classes, all_modes, all_run_modes, all_timer_kinds, code_in, order_in, what_in, what_text, class_in, is_deletable, mode_in, run_in, timer_kind_in, timer_kind_text, indicated_in, name_or_dash, number_in, is_within, levels_in, core_in, wait_in, name_in, choice_in, text_in, text_or, unquoted, result_map, read_on, is_number, either, is_digit}
+use Rattle.rt_plain.specs.Fields.{Field, Number, Levels, Core, Wait, Named, Indicated, Quoted, Coded, Ordered, Said, Classed, Moded, Ran, Repeated, Started, Armed, How, Keep, OnOff, Powered, Placed, Answered, Woken, Acted, Changed, Received, all_answers, answer_in, all_wakes, woke_in, all_acts, fired_in, split_more, split_last, paired, change_parts, change_in, received_parts, received_in, Value, Fits, spelled, value_in, listed_in, all_codes, all_orders, all_whats, deletable_classes, all_modes, all_run_modes, all_timer_kinds, code_in, order_in, what_in, what_text, class_in, is_deletable, mode_in, run_in, timer_kind_in, timer_kind_text, indicated_in, name_or_dash, number_in, is_within, levels_in, core_in, wait_in, name_in, choice_in, text_in, text_or, unquoted, result_map, read_on, is_number, either, is_digit}
 use Rattle.rt_plain.proofs.NumberLemmas.{own, number_takes, number_again}
 use Rattle.rt_plain.proofs.QuoteLemmas.{text-again, text_takes}
 
@@ -106,6 +109,12 @@ IsTold How v = Unit {0}
 IsTold Keep v = Unit {0}
 IsTold OnOff v = Unit {0}
 IsTold Powered v = Unit {0}
+IsTold Placed v = Unit {0}
+IsTold Answered v = Unit {0}
+IsTold Woken v = Unit {0}
+IsTold Acted v = Unit {0}
+IsTold Changed v = Unit {0}
+IsTold Received v = Unit {0}
 IsTold Coded v = Unit {0}
 IsTold Said v = Unit {0}
 IsTold Classed v = Unit {0}
@@ -276,6 +285,120 @@ pub ind-again : (v : Option (List ℕ)) → Fits Indicated v → indicated_in (n
 ind-again None h = refl
 ind-again (Some n) h = unless (bytes_eq n (codes "-")) _ (result_map (λ m. Some m) (name_in n)) (name_no_dash n h) ∙ ap (result_map (λ m. Some m)) (when (is_name n) (done n) (Err Why.Name) h)
 
+-- ---- answers, wakes and what timers did
+
+answer-takes : (w : List ℕ) (v : Option Code) → answer_in w ≡ Ok v → w ≡ code_or_wait v
+unfolding digits
+answer-takes w v e = listed-takes Why.Number code_or_wait all_answers w v (refl, (refl, (refl, (refl, (refl, (refl, (refl, (refl, (refl, (refl, (refl, (refl, tt)))))))))))) e
+
+answer-again : (v : Option Code) → answer_in (code_or_wait v) ≡ Ok v
+unfolding digits
+answer-again None = refl
+answer-again (Some Code.Ok) = refl
+answer-again (Some _) = refl
+
+woke-takes : (w : List ℕ) (v : Woke) → woke_in w ≡ Ok v → w ≡ woke_text v
+unfolding digits
+woke-takes w v e = listed-takes Why.Number woke_text all_wakes w v (refl, (refl, (refl, (refl, (refl, (refl, (refl, (refl, (refl, (refl, (refl, (refl, (refl, tt))))))))))))) e
+
+woke-again : (v : Woke) → woke_in (woke_text v) ≡ Ok v
+unfolding digits
+woke-again Woke.Retry = refl
+woke-again Woke.Start = refl
+woke-again (Woke.Code Code.Ok) = refl
+woke-again (Woke.Code _) = refl
+
+fired-takes : (w : List ℕ) (v : Fired) → fired_in w ≡ Ok v → w ≡ fired_text v
+unfolding digits
+fired-takes w v e = listed-takes Why.Number fired_text all_acts w v (refl, (refl, (refl, (refl, (refl, (refl, (refl, (refl, (refl, (refl, (refl, (refl, tt)))))))))))) e
+
+fired-again : (v : Fired) → fired_in (fired_text v) ≡ Ok v
+unfolding digits
+fired-again Fired.Nothing = refl
+fired-again (Fired.Code Code.Ok) = refl
+fired-again (Fired.Code _) = refl
+
+-- ---- words of two parts
+
+-- the byte isn't among these
+abbrev pub IsWithout : ℕ → List ℕ → Type 0
+IsWithout byte [] = Unit {0}
+IsWithout byte (b ∷ bs) = (eqb b byte ≡ false) × IsWithout byte bs
+
+split-none : (byte : ℕ) (bs : List ℕ) → IsWithout byte bs → split_last byte bs ≡ None
+split-none byte [] h = refl
+split-none byte (b ∷ bs) h = rw (split-none byte bs h.1, h.0) refl
+
+pub split-again : (byte : ℕ) (xs ys : List ℕ) → IsWithout byte ys → split_last byte (xs ++ byte ∷ ys) ≡ Some (xs, ys)
+split-again byte [] ys h = rw (split-none byte ys h) (when (eqb byte byte) _ _ (eq-eqb byte byte refl))
+split-again byte (x ∷ xs) ys h = rw (split-again byte xs ys h) refl
+
+abbrev IsSplitAt : ℕ → List ℕ → List ℕ × List ℕ → Type 0
+IsSplitAt byte bs p = bs ≡ p.0 ++ byte ∷ p.1
+
+split_here : (byte b : ℕ) (bs : List ℕ) (p : List ℕ × List ℕ) (t : Bool) → eqb b byte ≡ t → cond t (Some ([], bs)) None ≡ Some p → IsSplitAt byte (b ∷ bs) p
+split_here byte b bs p true e is = subst (IsSplitAt byte (b ∷ bs)) (some_pair ([], bs) p is) (ap (λ (c : ℕ). c ∷ bs) (eqb-true b byte e)) where
+  some_pair : (x y : List ℕ × List ℕ) → Some x ≡ Some y → x ≡ y
+  some_pair x y e = cc
+split_here byte b bs p false e is = absurd cc
+
+same_pair : (x y : List ℕ × List ℕ) → Some x ≡ Some y → x ≡ y
+same_pair x y e = cc
+
+split_further : (byte b : ℕ) (bs : List ℕ) (p : List ℕ × List ℕ) → ((q : List ℕ × List ℕ) → split_last byte bs ≡ Some q → IsSplitAt byte bs q) → (o : Option (List ℕ × List ℕ)) → split_last byte bs ≡ o → split_more byte b bs o ≡ Some p → IsSplitAt byte (b ∷ bs) p
+split_further byte b bs p rest None at is = split_here byte b bs p (eqb b byte) refl is
+split_further byte b bs p rest (Some q) at is = subst (IsSplitAt byte (b ∷ bs)) (same_pair (b ∷ q.0, q.1) p is) (ap (λ (t : List ℕ). b ∷ t) (rest q at))
+
+split-takes : (byte : ℕ) (bs : List ℕ) (p : List ℕ × List ℕ) → split_last byte bs ≡ Some p → IsSplitAt byte bs p
+split-takes byte [] p e = absurd cc
+split-takes byte (b ∷ bs) p e = split_further byte b bs p (split-takes byte bs) (split_last byte bs) refl e
+
+paired-ok : {A B : Type 0} (a : Result A Why) (b : Result B Why) (v : A × B) → paired a b ≡ Ok v → (a ≡ Ok v.0) × (b ≡ Ok v.1)
+paired-ok {A} {B} (Ok p) (Ok q) v e = (ap (λ (t : A × B). Ok t.0) (ok_is (p, q) v e), ap (λ (t : A × B). Ok t.1) (ok_is (p, q) v e))
+paired-ok (Ok p) (Err d) v e = absurd cc
+paired-ok (Err d) (Ok q) v e = absurd cc
+paired-ok (Err d) (Err f) v e = absurd cc
+
+change-takes : (w : List ℕ) (v : ℕ × ℕ) → change_in w ≡ Ok v → (w ≡ spelled Changed v) × Fits Changed v
+change-takes w v e = from (split_last 62 w) refl e where
+  from : (o : Option (List ℕ × List ℕ)) → split_last 62 w ≡ o → change_parts o ≡ Ok v → (w ≡ spelled Changed v) × Fits Changed v
+  from None at is = absurd cc
+  from (Some p) at is =
+      let b = paired-ok (number_in 0 255 p.0) (number_in 0 255 p.1) v is in
+      let x = number-takes 0 255 p.0 v.0 b.0 in
+      let y = number-takes 0 255 p.1 v.1 b.1 in
+      (split-takes 62 w p at ∙ ap (λ (t : List ℕ). t ++ 62 ∷ p.1) (sym x.0) ∙ ap (λ (t : List ℕ). decimal v.0 ++ 62 ∷ t) (sym y.0), (omega (arith, x.1), omega (arith, y.1)))
+
+digits_without : (byte : ℕ) → is_digit byte ≡ false → (bs : List ℕ) → list_all is_digit bs ≡ true → IsWithout byte bs
+digits_without byte other [] h = tt
+digits_without byte other (b ∷ bs) h =
+    let p = and_parts (is_digit b) (list_all is_digit bs) h in
+    (ne_eqb b byte (λ e. absurd (both_ways (is_digit byte) other (ap is_digit (sym e) ∙ p.0))), digits_without byte other bs p.1)
+
+change-again : (v : ℕ × ℕ) → Fits Changed v → change_in (spelled Changed v) ≡ Ok v
+change-again v h =
+    ap change_parts (split-again 62 (decimal v.0) (decimal v.1) (digits_without 62 refl (decimal v.1) (digits_decimal own v.1 (omega (arith, h.1)))))
+    ∙ rw (number-again 0 255 v.0 (omega arith) (omega (arith, h.0)) (omega (arith, h.0)), number-again 0 255 v.1 (omega arith) (omega (arith, h.1)) (omega (arith, h.1))) refl
+
+received-takes : (w : List ℕ) (v : List ℕ × ℕ) → list_all is_printable w ≡ true → received_in w ≡ Ok v → (w ≡ spelled Received v) × Fits Received v
+received-takes w v print e = from (split_last 32 w) refl e where
+  from : (o : Option (List ℕ × List ℕ)) → split_last 32 w ≡ o → received_parts o ≡ Ok v → (w ≡ spelled Received v) × Fits Received v
+  from None at is = absurd cc
+  from (Some p) at is =
+      let b = paired-ok (text_in p.0) (number_in 0 255 p.1) v is in
+      let there : w ≡ p.0 ++ 32 ∷ p.1 = split-takes 32 w p at in
+      let shown = and_parts (list_all is_printable p.0) (list_all is_printable (32 ∷ p.1)) (sym (list_all-append is_printable p.0 (32 ∷ p.1)) ∙ ap (list_all is_printable) (sym there) ∙ print) in
+      let x = text-takes p.0 v.0 shown.0 b.0 in
+      let y = number-takes 0 255 p.1 v.1 b.1 in
+      (there ∙ ap (λ (t : List ℕ). t ++ 32 ∷ p.1) x.0 ∙ ap (λ (t : List ℕ). quoted_text v.0 ++ 32 ∷ t) (sym y.0), (x.1, omega (arith, y.1)))
+
+received-again : (v : List ℕ × ℕ) → Fits Received v → received_in (spelled Received v) ≡ Ok v
+received-again v h =
+    let read = text-again v.0 (recursion_from_All (λ (b : ℕ). b < 256) v.0 h.0.1) in
+    let text : text_in (quoted_text v.0) ≡ Ok v.0 = ap text_or read ∙ when (is_text v.0) (done v.0) (Err Why.Text) h.0.0 in
+    ap received_parts (split-again 32 (quoted_text v.0) (decimal v.1) (digits_without 32 refl (decimal v.1) (digits_decimal own v.1 (omega (arith, h.1)))))
+    ∙ rw (text, number-again 0 255 v.1 (omega arith) (omega (arith, h.1)) (omega (arith, h.1))) refl
+
 pub value-takes : (f : Field) (w : List ℕ) (v : Value f) → list_all is_printable w ≡ true → value_in f w ≡ Ok v → IsTold f v → (w ≡ spelled f v) × Fits f v
 value-takes (Number low high) w v p e t = let k = number-takes low high w v e in (sym k.0, k.1)
 value-takes Levels w v p e t = levels-takes w v e
@@ -291,6 +414,12 @@ value-takes How w v p e t = (choice-takes (codes "and") (codes "or") w v e, tt)
 value-takes Keep w v p e t = (choice-takes (codes "clear") (codes "keep") w v e, tt)
 value-takes OnOff w v p e t = (choice-takes (codes "on") (codes "off") w v e, tt)
 value-takes Powered w v p e t = (choice-takes (codes "pm") (codes "nopm") w v e, tt)
+value-takes Placed w v p e t = (choice-takes (codes "head") (codes "tail") w v e, tt)
+value-takes Answered w v p e t = (answer-takes w v e, tt)
+value-takes Woken w v p e t = (woke-takes w v e, tt)
+value-takes Acted w v p e t = (fired-takes w v e, tt)
+value-takes Changed w v p e t = change-takes w v e
+value-takes Received w v p e t = received-takes w v p e
 value-takes Coded w v p e t = (code-takes w v e, tt)
 value-takes Said w v p e t = (what-takes w v e, tt)
 value-takes Classed w v p e t = (class-takes w v e, class-passes w v e)
@@ -321,6 +450,12 @@ value-again How v h = choice-again (codes "and") (codes "or") v refl
 value-again Keep v h = choice-again (codes "clear") (codes "keep") v refl
 value-again OnOff v h = choice-again (codes "on") (codes "off") v refl
 value-again Powered v h = choice-again (codes "pm") (codes "nopm") v refl
+value-again Placed v h = choice-again (codes "head") (codes "tail") v refl
+value-again Answered v h = answer-again v
+value-again Woken v h = woke-again v
+value-again Acted v h = fired-again v
+value-again Changed v h = change-again v h
+value-again Received v h = received-again v h
 value-again Coded v h = code-again v
 value-again Said v h = what-again v
 value-again Classed v h = class-again v h

@@ -20,9 +20,12 @@ use Rattle.rt_base.specs.declared.codes.WaitOrder.{WaitOrder}
 use Rattle.rt_plain.specs.declared.board.TimerKind.{TimerKind}
 use Rattle.rt_plain.specs.declared.stmt.What.{What}
 use Rattle.rt_plain.specs.declared.why.Why.{Why}
+use Rattle.rt_plain.specs.declared.line.Woke.{Woke}
+use Rattle.rt_plain.specs.declared.line.Fired.{Fired}
+use Rattle.rt_plain.specs.Texts.{quoted_text, code_or_wait, woke_text, fired_text}
 use Rattle.rt_plain.specs.Words.{code_text, sleep_text, run_mode_text, order_text, class_text}
 use Rattle.rt_plain.specs.Splits.{word_at, is_printable, is_empty}
-use Rattle.rt_plain.specs.Fields.{Field, Value, Fits, spelled, value_in, is_digit, Number, Levels, Core, Wait, Named, Indicated, Quoted, Coded, Ordered, Said, Classed, Moded, Ran, Repeated, Started, Armed, How, Keep, OnOff, Powered, what_text, timer_kind_text, is_deletable}
+use Rattle.rt_plain.specs.Fields.{Field, Value, Fits, spelled, value_in, is_digit, Number, Levels, Core, Wait, Named, Indicated, Quoted, Coded, Ordered, Said, Classed, Moded, Ran, Repeated, Started, Armed, How, Keep, OnOff, Powered, Placed, Answered, Woken, Acted, Changed, Received, what_text, timer_kind_text, is_deletable}
 use Rattle.rt_plain.specs.FieldLists.{Values, spelled_all, Fit, both, values_in, no_words, Always}
 use Rattle.rt_plain.proofs.NumberLemmas.{own}
 use Rattle.rt_plain.proofs.QuoteLemmas.{text-printable}
@@ -163,8 +166,29 @@ unfolding digits
 code_token Code.Ok = refl
 code_token _ = refl
 
+answer_token : (v : Option Code) → is_token (code_or_wait v) ≡ true
+answer_token None = refl
+answer_token (Some v) = code_token v
+
+woke_token : (v : Woke) → is_token (woke_text v) ≡ true
+woke_token Woke.Retry = refl
+woke_token Woke.Start = refl
+woke_token (Woke.Code v) = code_token v
+
+fired_token : (v : Fired) → is_token (fired_text v) ≡ true
+fired_token Fired.Nothing = refl
+fired_token (Fired.Code v) = code_token v
+
+change_token : (v : ℕ × ℕ) → Fits Changed v → is_token (spelled Changed v) ≡ true
+change_token v h =
+    let first = digit_bytes (decimal v.0) (digits_decimal own v.0 (omega (arith, h.0))) in
+    let second = digit_bytes (decimal v.1) (digits_decimal own v.1 (omega (arith, h.1))) in
+    token_from (spelled Changed v) (omega (arith, length-append (decimal v.0) (62 ∷ decimal v.1)))
+    (list_all-append is_word_byte (decimal v.0) (62 ∷ decimal v.1) ∙ and_from _ _ first second)
+
 abbrev pub is_quoted_field : Field → Bool
 is_quoted_field Quoted = true
+is_quoted_field Received = true
 is_quoted_field _ = false
 
 field_token : (f : Field) (v : Value f) → is_quoted_field f ≡ false → Fits f v → is_token (spelled f v) ≡ true
@@ -178,6 +202,13 @@ field_token Named v n h = name_token v h
 field_token Indicated None n h = refl
 field_token Indicated (Some v) n h = name_token v h
 field_token Quoted v n h = absurd cc
+field_token Received v n h = absurd cc
+field_token Placed true n h = refl
+field_token Placed false n h = refl
+field_token Answered v n h = answer_token v
+field_token Woken v n h = woke_token v
+field_token Acted v n h = fired_token v
+field_token Changed v n h = change_token v h
 field_token Coded v n h = code_token v
 field_token Ordered WaitOrder.Fifo n h = refl
 field_token Ordered WaitOrder.Prio n h = refl
@@ -202,13 +233,9 @@ field_token Powered false n h = refl
 
 quoted_front : (f : Field) (v : Value f) → is_quoted_field f ≡ true → IsQuoted (spelled f v)
 quoted_front Quoted v q = refl
+quoted_front Received v q = refl
 quoted_front (Number low high) v q = absurd cc
 quoted_front _ v q = absurd cc
-
-quoted_printable : (f : Field) (v : Value f) → is_quoted_field f ≡ true → Fits f v → list_all is_printable (spelled f v) ≡ true
-quoted_printable Quoted v q h = text-printable v (recursion_from_All (λ (b : ℕ). b < 256) v h.1)
-quoted_printable (Number low high) v q h = absurd cc
-quoted_printable _ v q h = absurd cc
 
 byte_parts : (b : ℕ) → is_word_byte b ≡ true → (eqb b 34 ≡ false) × (eqb b 32 ≡ false) × (is_printable b ≡ true)
 byte_parts b h =
@@ -231,6 +258,14 @@ all_printable (b ∷ bs) h = let p = and_parts (is_word_byte b) (list_all is_wor
 pub token_printable : (w : List ℕ) → is_token w ≡ true → list_all is_printable w ≡ true
 token_printable [] h = absurd cc
 token_printable (b ∷ bs) h = all_printable (b ∷ bs) h
+
+quoted_printable : (f : Field) (v : Value f) → is_quoted_field f ≡ true → Fits f v → list_all is_printable (spelled f v) ≡ true
+quoted_printable Quoted v q h = text-printable v (recursion_from_All (λ (b : ℕ). b < 256) v h.1)
+quoted_printable Received v q h =
+    list_all-append is_printable (quoted_text v.0) (32 ∷ decimal v.1)
+    ∙ and_from _ _ (text-printable v.0 (recursion_from_All (λ (b : ℕ). b < 256) v.0 h.0.1)) (token_printable (decimal v.1) (digits_token v.1 (omega (arith, h.1))))
+quoted_printable (Number low high) v q h = absurd cc
+quoted_printable _ v q h = absurd cc
 
 -- ---- the words of a list of fields
 

@@ -25,6 +25,7 @@ pub mod FieldListLemmas
 pub mod StatementTableLemmas
 pub mod TailLemmas
 pub mod LineTableLemmas
+pub mod TraceLemmas
 pub mod LineLemmas
 pub mod BoardLemmas
 pub mod SkipLemmas

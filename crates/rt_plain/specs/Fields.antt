@@ -1,5 +1,5 @@
 -- The fields of lines: how each value is spelled, which values there are, and how a word is read.
-use Rattle.std.specs.Prelude.{ℕ, ◌+◌, ◌*◌, ◌-◌, ◌^◌, ◌≤◌, ◌<◌, min, Bool, true, false, not, ◌&&◌, ◌||◌, ◌==◌, nat_lt, nat_le, List, [], ◌∷◌, length, slice_index, drop, Option, Some, None, Result, Ok, Err, decimal, codes, bytes_eq, IfSome, All, if◌then◌else◌, IsTrue}
+use Rattle.std.specs.Prelude.{ℕ, ◌+◌, ◌*◌, ◌-◌, ◌^◌, ◌≤◌, ◌<◌, min, Bool, true, false, not, ◌&&◌, ◌||◌, ◌==◌, nat_lt, nat_le, List, [], ◌∷◌, ◌++◌, length, map, slice_index, drop, Option, Some, None, Result, Ok, Err, decimal, codes, bytes_eq, IfSome, All, if◌then◌else◌, IsTrue}
 use Rattle.std.specs.Option.{option_map}
 use Rattle.std.specs.List.{list_all}
 use Rattle.rt_base.specs.declared.codes.Code.{Code}
@@ -9,12 +9,14 @@ use Rattle.rt_base.specs.declared.codes.RunMode.{RunMode}
 use Rattle.rt_base.specs.declared.codes.WaitOrder.{WaitOrder}
 use Rattle.rt_base.specs.Grammar.{is_name, is_text}
 use Rattle.rt_plain.specs.declared.board.TimerKind.{TimerKind}
+use Rattle.rt_plain.specs.declared.line.Woke.{Woke}
+use Rattle.rt_plain.specs.declared.line.Fired.{Fired}
 use Rattle.rt_plain.specs.declared.stmt.What.{What}
 use Rattle.rt_plain.specs.declared.why.Why.{Why}
 use Rattle.rt_plain.specs.declared.quote.Quoting.{Quoting}
 use Rattle.rt_plain.specs.declared.quote.QuoteStep.{QuoteStep}
 use Rattle.rt_plain.specs.Words.{code_text, sleep_text, run_mode_text, order_text, class_text}
-use Rattle.rt_plain.specs.Texts.{quoted_text, is_shown}
+use Rattle.rt_plain.specs.Texts.{quoted_text, is_shown, code_or_wait, woke_text, fired_text}
 
 -- the kinds of words behind the first one of a line
 pub data Field : Type 0 where
@@ -38,6 +40,12 @@ pub data Field : Type 0 where
   Keep : Field
   OnOff : Field
   Powered : Field
+  Placed : Field
+  Answered : Field
+  Woken : Field
+  Acted : Field
+  Changed : Field
+  Received : Field
 
 -- the type of a field's values
 abbrev pub Value : Field → Type 0
@@ -61,6 +69,12 @@ Value How = Bool
 Value Keep = Bool
 Value OnOff = Bool
 Value Powered = Bool
+Value Placed = Bool
+Value Answered = Option Code
+Value Woken = Woke
+Value Acted = Fired
+Value Changed = ℕ × ℕ
+Value Received = List ℕ × ℕ
 
 -- ---- spelling
 
@@ -112,6 +126,12 @@ spelled How b = either (codes "and") (codes "or") b
 spelled Keep b = either (codes "clear") (codes "keep") b
 spelled OnOff b = either (codes "on") (codes "off") b
 spelled Powered b = either (codes "pm") (codes "nopm") b
+spelled Placed b = either (codes "head") (codes "tail") b
+spelled Answered answer = code_or_wait answer
+spelled Woken woke = woke_text woke
+spelled Acted fired = fired_text fired
+spelled Changed v = decimal v.0 ++ 62 ∷ decimal v.1
+spelled Received v = quoted_text v.0 ++ 32 ∷ decimal v.1
 
 -- ---- which values there are
 
@@ -146,6 +166,12 @@ Fits How b = Unit {0}
 Fits Keep b = Unit {0}
 Fits OnOff b = Unit {0}
 Fits Powered b = Unit {0}
+Fits Placed b = Unit {0}
+Fits Answered answer = Unit {0}
+Fits Woken woke = Unit {0}
+Fits Acted fired = Unit {0}
+Fits Changed v = (v.0 < 256) × (v.1 < 256)
+Fits Received v = (IsTrue (is_text v.0) × All (λ b. b < 256) v.0) × (v.1 < 256)
 
 -- ---- reading numbers
 
@@ -282,6 +308,57 @@ all_timer_kinds = (codes "oneshot", TimerKind.OneShot) ∷ (codes "periodic", Ti
 abbrev pub timer_kind_in : List ℕ → Result TimerKind Why
 timer_kind_in word = listed_in Why.Choice all_timer_kinds word
 
+-- the words of answers: a code, or `wait`
+abbrev pub all_answers : List (List ℕ × Option Code)
+all_answers = (codes "wait", None) ∷ map (λ p. (p.0, Some p.1)) all_codes
+
+-- an answer
+abbrev pub answer_in : List ℕ → Result (Option Code) Why
+answer_in word = listed_in Why.Number all_answers word
+
+-- the words of wakes: a code, or why none is shown
+abbrev pub all_wakes : List (List ℕ × Woke)
+all_wakes = (codes "retry", Woke.Retry) ∷ (codes "start", Woke.Start) ∷ map (λ p. (p.0, Woke.Code p.1)) all_codes
+
+-- how a thread wakes
+abbrev pub woke_in : List ℕ → Result Woke Why
+woke_in word = listed_in Why.Number all_wakes word
+
+-- the words of what a timer's call answered: a code, or `-`
+abbrev pub all_acts : List (List ℕ × Fired)
+all_acts = (codes "-", Fired.Nothing) ∷ map (λ p. (p.0, Fired.Code p.1)) all_codes
+
+-- what a timer's call answered
+abbrev pub fired_in : List ℕ → Result Fired Why
+fired_in word = listed_in Why.Number all_acts word
+
+-- ---- reading words of two parts
+
+-- what stands before and behind the last such byte, with a byte in front of the rest
+abbrev pub split_more : ℕ → ℕ → List ℕ → Option (List ℕ × List ℕ) → Option (List ℕ × List ℕ)
+split_more byte b bs (Some p) = Some (b ∷ p.0, p.1)
+split_more byte b bs None = if b == byte then Some ([], bs) else None
+
+-- what stands before and behind the last such byte
+abbrev pub split_last : ℕ → List ℕ → Option (List ℕ × List ℕ)
+split_last byte [] = None
+split_last byte (b ∷ bs) = split_more byte b bs (split_last byte bs)
+
+-- both values, or the reason of the first that is none
+abbrev pub paired : {A B : Type 0} → Result A Why → Result B Why → Result (A × B) Why
+paired (Ok a) (Ok b) = Ok (a, b)
+paired (Ok a) (Err e) = Err e
+paired (Err d) b = Err d
+
+-- two priorities
+abbrev pub change_parts : Option (List ℕ × List ℕ) → Result (ℕ × ℕ) Why
+change_parts None = Err Why.Number
+change_parts (Some p) = paired (number_in 0 255 p.0) (number_in 0 255 p.1)
+
+-- two priorities with `>` between them
+abbrev pub change_in : List ℕ → Result (ℕ × ℕ) Why
+change_in word = change_parts (split_last 62 word)
+
 -- ---- reading quoted texts
 
 -- a digit of `\xHH`
@@ -328,6 +405,15 @@ text_or (Some text) = if is_text text then Ok text else Err Why.Text
 abbrev pub text_in : List ℕ → Result (List ℕ) Why
 text_in [] = Err Why.Text
 text_in (b ∷ bs) = if b == 34 then text_or (unquoted Quoting.Plain bs) else Err Why.Text
+
+-- a quoted text and a number
+abbrev pub received_parts : Option (List ℕ × List ℕ) → Result (List ℕ × ℕ) Why
+received_parts None = Err Why.Text
+received_parts (Some p) = paired (text_in p.0) (number_in 0 255 p.1)
+
+-- a quoted text and a number with a space between them
+abbrev pub received_in : List ℕ → Result (List ℕ × ℕ) Why
+received_in word = received_parts (split_last 32 word)
 
 -- what one byte of a quoted text does
 abbrev pub step_of : Quoting → ℕ → QuoteStep
@@ -381,3 +467,9 @@ value_in How word = choice_in (codes "and") (codes "or") word
 value_in Keep word = choice_in (codes "clear") (codes "keep") word
 value_in OnOff word = choice_in (codes "on") (codes "off") word
 value_in Powered word = choice_in (codes "pm") (codes "nopm") word
+value_in Placed word = choice_in (codes "head") (codes "tail") word
+value_in Answered word = answer_in word
+value_in Woken word = woke_in word
+value_in Acted word = fired_in word
+value_in Changed word = change_in word
+value_in Received word = received_in word

@@ -43,6 +43,7 @@ pub mod StatementTable
 pub mod Tails
 pub mod LineTable
 pub mod BoardText
+pub mod TraceRows
 pub mod Canon
 pub mod Generated
 pub mod Commands

@@ -93,3 +93,26 @@ pub enum Tail {
     /// A statement, or `-`.
     MakesCall,
 }
+
+/// The kinds of lines of a trace's entries, by their first words.
+#[derive(Clone, Copy, Debug, PartialEq, Eq)]
+pub enum TraceKind {
+    Run,
+    Out,
+    Done,
+    Again,
+    Wake,
+    Cur,
+    Fire,
+    Timeout,
+    Rx,
+    Tx,
+    Sleep,
+    Suspend,
+    Resume,
+    Tick,
+    Print,
+    Close,
+    Own,
+    Mode,
+}

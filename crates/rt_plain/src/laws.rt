@@ -1,13 +1,16 @@
 //! Laws of the plain definitions: each is the contract of a function that does nothing.
-ghost use Rattle.std.specs.Prelude.{◌≡◌, ◌≤◌, ◌<◌, ◌+◌, ◌*◌, ℕ, List, [], Bool, true, false, Option, Some, None, length, All, IsTrue};
+ghost use Rattle.std.specs.Prelude.{◌≡◌, ◌≤◌, ◌<◌, ◌+◌, ◌*◌, ℕ, List, [], Bool, true, false, Option, Some, None, Ok, length, map, All, IsTrue};
 ghost use Rattle.rt_base.specs.declared.codes.Event.{Event};
 ghost use Rattle.rt_base.specs.declared.codes.Halt.{Halt};
 ghost use Rattle.rt_plain.specs.declared.board.Arrival.{Arrival};
 ghost use Rattle.rt_plain.specs.declared.entry.Entry.{Entry};
+ghost use Rattle.rt_plain.specs.declared.entry.Cut.{Cut};
 ghost use Rattle.rt_plain.specs.declared.line.Line.{Line};
 ghost use Rattle.rt_plain.specs.PlainBoard.{PlainBoard};
 ghost use Rattle.rt_plain.specs.BoardText.{IsBoard, first_bad};
 ghost use Rattle.rt_plain.specs.Canon.{IsValid, canonical_text};
+ghost use Rattle.rt_plain.specs.Texts.{End, trace_text};
+ghost use Rattle.rt_plain.specs.TraceRows.{IsTrace, text_of_rows, trace_rows, row_text, row_said, whole_lines_of};
 ghost use Rattle.rt_plain.specs.State.{State, Retry, Alarm, ArmedRow};
 ghost use Rattle.rt_plain.specs.Opening.{open_state};
 ghost use Rattle.rt_plain.specs.Runs.{IsRun, IsRunIn, IsCompleteIn, events_of, is_over, is_over_in, room};
@@ -138,4 +141,24 @@ pub fn boards_of_texts_are_valid()
 #[tactic(auto, using(crate::proofs::ValidLemmas::canonical_is_board))]
 pub fn canonical_texts_are_texts_of_their_boards()
     ensures { (b : PlainBoard) → IsValid b → IsBoard (canonical_text b) b }
+{}
+
+/// Equal texts of traces have equal entries, cuts and ends. `IsTrace` holds of all that the types
+/// of journals, cuts and ends keep.
+pub fn texts_are_of_one_trace()
+    ensures { (journal entries : List Entry) (cut place : Option Cut) (end last : Option End) →
+        IsTrace journal cut end → IsTrace entries place last →
+        trace_text journal cut end ≡ trace_text entries place last →
+        (journal ≡ entries) × (cut ≡ place) × (end ≡ last) }
+{}
+
+/// A trace is the text of its rows, and each row is read back by itself.
+pub fn rows_are_read_back()
+    ensures text { (journal : List Entry) (cut : Option Cut) (end : Option End) →
+        text_of_rows (trace_rows journal cut end) ≡ trace_text journal cut end }
+    ensures lines { (journal : List Entry) (cut : Option Cut) (end : Option End) →
+        IsTrace journal cut end →
+        whole_lines_of (trace_text journal cut end) ≡ map row_text (trace_rows journal cut end) }
+    ensures rows { (journal : List Entry) (cut : Option Cut) (end : Option End) →
+        IsTrace journal cut end → All (λ row. row_said (row_text row) ≡ Ok row) (trace_rows journal cut end) }
 {}

@@ -11,6 +11,7 @@ pub mod line;
 pub mod lines;
 pub mod quote;
 pub mod row;
+pub mod shown;
 pub mod stmt;
 pub mod why;
 
@@ -20,7 +21,7 @@ pub use board::{
 };
 pub use board_line::{BoardLine, LimitClass, ThreadLine};
 pub use entry::{Cut, Entry};
-pub use kind::{Kind, LineKind, StatementKind, Tail};
+pub use kind::{Kind, LineKind, StatementKind, Tail, TraceKind};
 pub use line::{Fired, Line, Woke};
 pub use lines::Lines;
 pub use quote::{QuoteStep, Quoting};

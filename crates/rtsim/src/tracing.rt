@@ -70,7 +70,7 @@ fn ran(alloc: Global, bytes: &[u8]) -> Result<Machine, Refusal>
 fn trace_of(alloc: Global, machine: &Machine) -> Result<List<u8>, AllocError>
     ensures { IfOk result (λ text. text ≡ trace_text machine.now.course.journal None (end_of machine.now.course)) }
 {
-    text(alloc, machine.journal(), end_of(machine))
+    text(alloc, machine.journal(), None, end_of(machine))
 }
 
 // The trace of the run of the board that the bytes spell.

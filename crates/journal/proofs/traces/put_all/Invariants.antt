@@ -7,5 +7,5 @@ use Rattle.journal.proofs.traces.put_all.Given as goal
 abbrev pub invariant-loop-i : goal.invariant-loop-i
 invariant-loop-i l = record {
   place : l.at + lines_in (drop l.i l.headers) ≡ length l.lines;
-  text : l.out ++ entries_text (l.i + 1) (entries_of (drop l.i l.headers) (drop l.at l.lines)) ≡ l.initial.out ++ entries_text 1 (entries_of l.headers l.lines);
+  text : l.out ++ entries_text (l.number + l.i) (entries_of (drop l.i l.headers) (drop l.at l.lines)) ≡ l.initial.out ++ entries_text l.number (entries_of l.headers l.lines);
 }

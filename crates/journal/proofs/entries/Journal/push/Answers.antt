@@ -1,6 +1,8 @@
 use Rattle.std.proofs.Common.{◌≡◌, ◌+◌, ◌≤◌, length, arith, ap, ◌∙◌}
 use Rattle.std.proofs.lemmas.List.{length-append}
-use Rattle.std.proofs.lemmas.List.Sums.{sum_by-append}
+use Rattle.std.proofs.lemmas.List.Elements.{All-push, All-append}
+use Rattle.rt_plain.specs.TraceRows.{CanShow}
+use Rattle.journal.specs.Headers.{CanHead}
 use Rattle.journal.specs.declared.header.Header.{Header}
 use Rattle.journal.proofs.HeaderLemmas.{entries_of-push, StandFrom-push, lines_in-push}
 use Rattle.journal.proofs.entries.Journal.push.Goals as goal
@@ -21,4 +23,6 @@ invariant_of-self c =
       rw (c.push_reserved.ensures.items) (StandFrom-push 0 c.self.inside.headers.items _ c.self.invariant.1 (omega (arith, c.self.invariant.0, c.len-first.ensures))),
       omega (arith, entry_room, c.push_reserved.ensures.len),
       omega (arith, line_room, lines_len, ap length c.move_to.ensures.moved),
+      rw (c.push_reserved.ensures.items) (All-push CanHead c.self.inside.headers.items _ c.self.invariant.4 (c.know_event.ensures, omega (arith, c.ranges.tick.fits))),
+      rw (c.move_to.ensures.moved) (All-append CanShow c.self.inside.lines.items c.args.lines.now.items c.self.invariant.5 c.move_to.ensures.written),
     )
