@@ -26,6 +26,7 @@ pub mod StatementTableLemmas
 pub mod TailLemmas
 pub mod LineTableLemmas
 pub mod TraceLemmas
+pub mod AgreeLemmas
 pub mod LineLemmas
 pub mod BoardLemmas
 pub mod SkipLemmas

@@ -44,6 +44,7 @@ pub mod Tails
 pub mod LineTable
 pub mod BoardText
 pub mod TraceRows
+pub mod Agreement
 pub mod Canon
 pub mod Generated
 pub mod Commands

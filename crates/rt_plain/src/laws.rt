@@ -11,6 +11,8 @@ ghost use Rattle.rt_plain.specs.BoardText.{IsBoard, first_bad};
 ghost use Rattle.rt_plain.specs.Canon.{IsValid, canonical_text};
 ghost use Rattle.rt_plain.specs.Texts.{End, trace_text};
 ghost use Rattle.rt_plain.specs.TraceRows.{IsTrace, text_of_rows, trace_rows, row_text, row_said, whole_lines_of};
+ghost use Rattle.rt_plain.specs.Replays.{IsAgreement};
+ghost use Rattle.rt_plain.specs.Agreement.{lines_agreeing};
 ghost use Rattle.rt_plain.specs.State.{State, Retry, Alarm, ArmedRow};
 ghost use Rattle.rt_plain.specs.Opening.{open_state};
 ghost use Rattle.rt_plain.specs.Runs.{IsRun, IsRunIn, IsCompleteIn, events_of, is_over, is_over_in, room};
@@ -161,4 +163,12 @@ pub fn rows_are_read_back()
         whole_lines_of (trace_text journal cut end) ≡ map row_text (trace_rows journal cut end) }
     ensures rows { (journal : List Entry) (cut : Option Cut) (end : Option End) →
         IsTrace journal cut end → All (λ row. row_said (row_text row) ≡ Ok row) (trace_rows journal cut end) }
+{}
+
+/// One pass over the lines of a text, which makes each entry from its header's event and compares lines, finds how
+/// many of them begin the text of some run within the limits. The board's cores have numbers of 8 bits, and its limits
+/// let the first event be made.
+pub fn one_pass_finds_the_agreement()
+    ensures { (b : PlainBoard) (text : List ℕ) → b.cores ≤ 256 → is_over b [] ≡ false →
+        IsAgreement b text (lines_agreeing b text) }
 {}

@@ -17,6 +17,7 @@ use Rattle.rt_plain.specs.Steps.{happens}
 use Rattle.rt_plain.specs.Opening.{open_state}
 use Rattle.rt_plain.specs.Runs.{IsRun, IsRunIn, IsRunWithin, IsComplete, is_over, entry_tick, is_event_of, events_of, halt_of}
 use Rattle.rt_plain.specs.Replays.{IsGood, IsAgreement}
+use Rattle.rt_plain.specs.Agreement.{lines_agreeing}
 use Rattle.rt_plain.specs.Live.{IsLive, lone_events}
 use Rattle.rt_plain.specs.Commands.{IsLiveText}
 use Rattle.rt_plain.specs.Schedules.{moved, driven, round_events}
@@ -131,6 +132,21 @@ agreement_without_the_last_newline = record { agrees = record { whole = leb-true
 pub agreement_of_nothing : IsAgreement light [] 0
 unfolding digits happens open_state
 agreement_of_nothing = record { agrees = record { whole = leb-true 0 0 refl; journal = light_ran.journal; state = light_ran.state; is_run = light_within; cut = None; cut_is = tt; end = None; end_is = tt; rest = light_entries; begins = refl }; greatest = λ m a. a.whole }
+
+-- one pass counts the lines of a good trace, with its cut and its end
+pub pass_over_a_good_trace : lines_agreeing light (light_entries ++ codes "cut 7\nend quiet @10\n") ≡ 22
+unfolding digits happens open_state
+pass_over_a_good_trace = refl
+
+-- and stops at a cut with other numbers
+pub pass_to_a_wrong_cut : lines_agreeing light (light_entries ++ codes "cut 6\nend quiet @10\n") ≡ 20
+unfolding digits happens open_state
+pass_to_a_wrong_cut = refl
+
+-- and at the first line that no run has there
+pub pass_to_a_wrong_line : lines_agreeing light (codes "1 c0 @0\n  run A\n2 c0 @0\n  do A 1 1\n") ≡ 3
+unfolding digits happens open_state
+pass_to_a_wrong_line = refl
 
 -- a runner alone in 1,000 turns makes the whole run, and nothing is left for the rounds behind the cut
 abbrev cut_at_7 : Cut
