@@ -3,17 +3,13 @@
 
 mod draft;
 mod fault;
-mod fields;
 mod lines;
-mod numbers;
 mod places;
-mod quotes;
 mod reading;
 mod table;
 mod tails;
 #[cfg(test)]
 mod tests;
-mod words;
 
 pub use fault::BoardFault;
 pub use reading::{LONGEST, parse};

@@ -1,19 +1,19 @@
 //! One line, judged by the 14 reasons in their order.
-ghost use Rattle.std.specs.Prelude.{◌≡◌, ◌≤◌, length, drop, map, if◌then◌else◌};
-ghost use Rattle.std.specs.List.{list_any, list_all};
-ghost use Rattle.rt_plain.specs.Splits.{is_printable, is_empty};
+ghost use Rattle.std.specs.Prelude.{◌≡◌, ◌≤◌, length, map};
+ghost use Rattle.std.specs.List.{list_any};
+ghost use Rattle.rt_plain.specs.Splits.{is_empty};
 ghost use Rattle.rt_plain.specs.LineTable.{row};
-ghost use Rattle.rt_plain.specs.BoardText.{has_count, of_kind, of_words, judged, is_indented};
+ghost use Rattle.rt_plain.specs.BoardText.{has_count, of_kind, of_words, judged};
 ghost use Rattle.board_text.specs.Gives.{Gives};
 ghost use Rattle.board_text.specs.Drafts.{so_far};
 
 use crate::draft::Draft;
 use crate::fault::Refusal;
-use crate::fields::word_at;
 use crate::places::{is_limit_passed, is_out_of_order, placed};
 use crate::table::{field_count, kind_named, read_said, tail_of};
-use crate::tails::{behind, is_counted};
-use crate::words::words_of;
+use crate::tails::is_counted;
+use rt_plain::fields::word_at;
+use rt_plain::words::{are_printable, behind, behind_indent, is_indented, words_of};
 use rt_plain::{BoardLine, Kind, Why};
 use std::alloc::Global;
 
@@ -46,12 +46,6 @@ fn of_kind(alloc: Global, draft: &Draft, words: &[&[u8]], kind: Kind) -> Result<
     }
 }
 
-fn are_printable(line: &[u8]) -> bool
-    ensures { result ≡ list_all is_printable line.now }
-{
-    line.iter().all(|b| *b >= 32 && *b <= 126)
-}
-
 #[tactic(auto, using(rt_plain::proofs::SplitLemmas::any_here, rt_plain::proofs::SplitLemmas::any_more, rt_plain::proofs::SplitLemmas::any_none))]
 fn has_empty(words: &[&[u8]]) -> bool
     ensures { result ≡ list_any is_empty (map (λ w. w.now) words.now) }
@@ -62,22 +56,6 @@ fn has_empty(words: &[&[u8]]) -> bool
         }
     }
     false
-}
-
-fn is_indented(line: &[u8]) -> bool
-    ensures { result ≡ is_indented line.now }
-{
-    match line {
-        [b, c, ..] => *b == b' ' && *c == b' ',
-        _ => false,
-    }
-}
-
-/// What follows the indent.
-fn behind_indent(line: &[u8]) -> &[u8]
-    ensures { result.now ≡ (if is_indented line.now then drop 2 line.now else line.now) }
-{
-    if is_indented(line) { &line[2..] } else { line }
 }
 
 /// Reasons 3 to 14.

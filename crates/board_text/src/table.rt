@@ -6,12 +6,12 @@ ghost use Rattle.rt_plain.specs.declared.kind.Kind.{Kind as AnyKind};
 ghost use Rattle.board_text.specs.Gives.{Gives};
 
 use crate::fault::Refusal;
-use crate::fields::{
+use crate::tails::{read_limit, read_schedule, read_timer};
+use rt_plain::fields::{
     all0, all1, all2, all3, all4, all5, all6, armed, both, byte, class, code, core, half, how,
     indicated, keep, levels, mode, name, number, on_off, order, power, prio, run, started, text,
     timer_kind, wait, what, word_at,
 };
-use crate::tails::{behind, read_limit, read_schedule, read_timer};
 use rt_plain::{
     Arrival, BoardLine, Call, DeviceDef, EventDef, Kind, LineKind, MailboxDef, MutexDef, QueueDef,
     SemDef, StatementKind, Stmt, Tail, ThreadLine, Why,

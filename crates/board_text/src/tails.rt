@@ -8,26 +8,15 @@ ghost use Rattle.rt_plain.specs.declared.kind.LineKind.TheVariants as line;
 ghost use Rattle.board_text.specs.Gives.{Gives};
 
 use crate::fault::Refusal;
-use crate::fields::{armed, both, name, number, timer_kind, word_at};
-use crate::numbers::{is_number, number_of};
 use crate::table::{read_statement, statement_count, statement_named};
 use rt_base::{CoreNo, Event, List, Name};
+use rt_plain::fields::{armed, both, name, number, timer_kind, word_at};
+use rt_plain::numbers::{is_number, number_of};
+use rt_plain::words::behind;
 use rt_plain::{
     BoardLine, LimitClass, Schedule, StatementKind, Stmt, Tail, TimerDef, TimerKind, Why,
 };
 use std::alloc::Global;
-
-/// The words behind the first ones.
-#[tactic(auto, using(rt_plain::proofs::SplitLemmas::nows_behind))]
-pub(crate) fn behind<'a, 'b>(words: &'b [&'a [u8]], first: usize) -> &'b [&'a [u8]]
-    ensures { map (λ w. w.now) result.now ≡ drop first (map (λ w. w.now) words.now) }
-{
-    if first < words.len() {
-        &words[first..]
-    } else {
-        &[]
-    }
-}
 
 // ---- the number of words
 

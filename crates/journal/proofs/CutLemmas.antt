@@ -34,10 +34,10 @@ split-text out headers lines cut before is =
     let rest = entries_text (cut.at + 1) (drop cut.at (entries_of headers lines)) in
     let front : take cut.at (entries_of headers lines) ≡ entries_of (take cut.at headers) (take before lines) = sym (entries-before cut.at headers lines) ∙ ap (λ (n : ℕ). entries_of (take cut.at headers) (take n lines)) (sym is) in
     let behind : drop cut.at (entries_of headers lines) ≡ entries_of (take (length headers - cut.at) (drop cut.at headers)) (take (length lines - before) (drop before lines)) =
-        sym (entries-behind cut.at headers lines)
-        ∙ ap (λ (n : ℕ). entries_of (drop cut.at headers) (drop n lines)) (sym is)
-        ∙ ap (λ (hs : List Header). entries_of hs (drop before lines)) (sym (take_rest headers cut.at))
-        ∙ ap (λ (ls : List Line). entries_of (take (length headers - cut.at) (drop cut.at headers)) ls) (sym (take_rest lines before)) in
+    sym (entries-behind cut.at headers lines)
+    ∙ ap (λ (n : ℕ). entries_of (drop cut.at headers) (drop n lines)) (sym is)
+    ∙ ap (λ (hs : List Header). entries_of hs (drop before lines)) (sym (take_rest headers cut.at))
+    ∙ ap (λ (ls : List Line). entries_of (take (length headers - cut.at) (drop cut.at headers)) ls) (sym (take_rest lines before)) in
     sym (append_assoc out (first ++ cut_text cut) rest) ∙ ap (λ (t : List ℕ). t ++ rest) (sym (append_assoc out first (cut_text cut)))
     ∙ ap (λ (es : List Entry). out ++ entries_text 1 es ++ cut_text cut ++ rest) front
     ∙ ap (λ (es : List Entry). out ++ entries_text 1 (entries_of (take cut.at headers) (take before lines)) ++ cut_text cut ++ entries_text (cut.at + 1) es) behind

@@ -1,5 +1,5 @@
 -- What contracts see of a journal.
-use Rattle.std.specs.Prelude.{◌≡◌, ◌-◌, ◌^◌, ℕ, List, Option, length, take, min, flat_map, IsSomeAnd, slice_get}
+use Rattle.std.specs.Prelude.{◌≡◌, ℕ, List, Option, length, take, flat_map, slice_get}
 use Rattle.rt_base.specs.declared.codes.Event.{Event}
 use Rattle.rt_plain.specs.declared.entry.Entry.{Entry}
 use Rattle.rt_plain.specs.declared.line.Line.{Line}

@@ -149,7 +149,11 @@ impl Journal {
     }
 
     // Adds the text of the entries at the end, with the `cut` line where it stands.
-    pub(crate) fn put_entries(&self, out: &mut List<u8>, cut: Option<&Cut>) -> Result<(), AllocError>
+    pub(crate) fn put_entries(
+        &self,
+        out: &mut List<u8>,
+        cut: Option<&Cut>,
+    ) -> Result<(), AllocError>
         requires { StandsIn self.now.entries (cut_of cut) }
         ensures { OnOk result (out.new ≡ out.old ++ body_text self.now.entries (cut_of cut.entry)) }
     {

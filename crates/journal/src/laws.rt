@@ -1,7 +1,8 @@
 //! Laws of texts: each is the contract of a function that changes nothing.
 ghost use Rattle.std.specs.Prelude.{◌≡◌, ◌<◌, ◌^◌};
 ghost use Rattle.rt_plain.specs.Texts.{trace_text};
-ghost use Rattle.rt_plain.specs.TraceRows.{StandsIn, IsTrace, CanCount, CanEnd};
+ghost use Rattle.rt_plain.specs.Runs.{events_of};
+ghost use Rattle.rt_plain.specs.TraceRows.{StandsIn, IsTrace, CanCount, CanEnd, HasCores, events_told};
 ghost use Rattle.journal.specs.Ending.{cut_of, ending};
 
 use crate::Journal;
@@ -56,4 +57,14 @@ pub fn equal_texts_have_equal_journals(
 {
     journals_can_be_written(journal, cut, end);
     journals_can_be_written(other, other_cut, other_end);
+}
+
+/// The events that `read_events` reads of a journal's text are those of its entries. The cut stands among the entries,
+/// and has a number for each of 1 to 8 cores.
+pub fn texts_tell_their_events(journal: &Journal, cut: Option<&Cut>, end: Option<(Halt, u32)>)
+    requires stands { StandsIn journal.now.entries (cut_of cut) }
+    requires cores { HasCores (cut_of cut) }
+    ensures { events_told (trace_text journal.now.entries (cut_of cut.entry) (ending end)) ≡ events_of journal.now.entries }
+{
+    journals_can_be_written(journal, cut, end);
 }

@@ -5,6 +5,8 @@ mod consoles;
 mod entries;
 mod header;
 pub mod laws;
+mod reading;
+mod rows;
 #[cfg(test)]
 mod tests;
 mod traces;
@@ -12,5 +14,6 @@ mod writing;
 
 pub use consoles::console;
 pub use entries::Journal;
+pub use reading::read_events;
 pub use rt_plain::Cut;
 pub use traces::text;

@@ -1,37 +1,36 @@
 -- One pass over the lines of a text finds the greatest number of lines that begin the text of a run.
-use Rattle.std.proofs.Common.{◌≡◌, ℕ, zero, suc, ◌+◌, ◌*◌, ◌/◌, ◌%◌, ◌<◌, ◌≤◌, ◌^◌, Bool, true, false, not, ◌&&◌, eqb, leb, cond, List, [], ◌∷◌, ◌++◌, length, map, take, drop, get_or, Option, Some, None, is_some, Result, Ok, Err, refl, sym, ap, ◌∙◌, subst, arith, inl, inr, decimal, codes, append_assoc, length-append, add-zero}
-use Rattle.std.specs.Prelude.{bytes_eq, count_by, IsTrue}
+use Rattle.std.proofs.Common.{◌≡◌, ℕ, zero, suc, ◌+◌, ◌/◌, ◌%◌, ◌<◌, ◌≤◌, Bool, true, false, not, ◌&&◌, eqb, leb, cond, List, [], ◌∷◌, ◌++◌, length, map, take, drop, get_or, Option, Some, None, is_some, refl, sym, ap, ◌∙◌, subst, arith, decimal, codes, append_assoc, length-append, add-zero}
+use Rattle.std.specs.Prelude.{bytes_eq, IsTrue}
 use Rattle.std.specs.List.{list_all, flat_map}
 use Rattle.std.specs.Fmt.{digits, digits_onto, digit_glyph}
-use Rattle.std.proofs.lemmas.List.{append-nil, length-take}
+use Rattle.std.proofs.lemmas.List.{append-nil}
 use Rattle.std.proofs.lemmas.List.Concat.{flat_map-cons}
 use Rattle.std.proofs.lemmas.List.Sums.{sum_by-cons}
-use Rattle.std.proofs.lemmas.Bool.{and_from, and_parts, not-true, not_from_false, leb-true, le-leb, ltb-true, lt-ltb, ne_eqb, eq-eqb, eqb-true, eqb-false, cases_Bool, false_from_ne_true, both_ways}
+use Rattle.std.proofs.lemmas.Bool.{and_from, and_parts, not_from_false, leb-true, le-leb, ltb-true, lt-ltb, ne_eqb, eq-eqb, eqb-true, eqb-false, false_from_ne_true, both_ways}
 use Rattle.std.proofs.lemmas.Slice.Eq.{bytes_eq-Decides}
 use Rattle.rt_base.specs.declared.codes.Event.{Event}
 use Rattle.rt_base.specs.declared.codes.Halt.{Halt}
 use Rattle.rt_plain.specs.declared.entry.Entry.{Entry}
 use Rattle.rt_plain.specs.declared.entry.Cut.{Cut}
 use Rattle.rt_plain.specs.declared.line.Line.{Line}
-use Rattle.rt_plain.specs.declared.why.Why.{Why}
 use Rattle.rt_plain.specs.PlainBoard.{PlainBoard}
 use Rattle.rt_plain.specs.State.{State}
 use Rattle.rt_plain.specs.Sleeps.{Did, Made, Same, Halted}
 use Rattle.rt_plain.specs.Steps.{happens}
 use Rattle.rt_plain.specs.Opening.{open_state}
-use Rattle.rt_plain.specs.Runs.{IsMade, IsRunIn, IsWithin, IsRunWithin, IsComplete, entry_tick, is_event_of, is_over, halt_of, events_of}
+use Rattle.rt_plain.specs.Runs.{IsMade, IsRunIn, IsRunWithin, entry_tick, is_event_of, is_over, halt_of, events_of}
 use Rattle.rt_plain.specs.Live.{owner_counts}
 use Rattle.rt_plain.specs.Words.{words, halt_text}
-use Rattle.rt_plain.specs.Fields.{is_digit, number_in}
+use Rattle.rt_plain.specs.Fields.{is_digit}
 use Rattle.rt_plain.specs.Splits.{words_of, word_at}
-use Rattle.rt_plain.specs.Texts.{End, with_newline, indented_line, line_text, at_tick, header, entry_text, entries_text, cut_text, body_text, end_text, trace_text}
-use Rattle.rt_plain.specs.TraceRows.{Counted, Ended, row_text, number_behind, lengthen, whole_lines_of, CanHappen}
-use Rattle.rt_plain.specs.Replays.{CountsEntries, IsCutOf, IsEndOf, whole_lines, first_lines, AgreesFor, IsAgreement}
+use Rattle.rt_plain.specs.Texts.{End, with_newline, indented_line, line_text, at_tick, header, entry_text, entries_text, end_text, trace_text}
+use Rattle.rt_plain.specs.TraceRows.{Counted, Ended, row_text, lengthen, whole_lines_of, CanHappen}
+use Rattle.rt_plain.specs.Replays.{IsCutOf, IsEndOf, whole_lines, first_lines, IsAgreement}
 use Rattle.rt_plain.specs.Agreement.{Reader, Read, Stop, On, behind_front, cut_now, is_end_of, step_of, event_named, is_late, may_follow, on_entry, read_entry, read_made, read_event, read_cut, read_outer, read_due, read_line, counted_on, pass, reader, lines_agreeing}
 use Rattle.rt_plain.specs.Agreement.{End as Ends}
-use Rattle.rt_plain.proofs.FieldLemmas.{number-again, when, unless, is_word, is_same}
-use Rattle.rt_plain.proofs.FieldListLemmas.{is_token, is_word_byte, digit_bytes, token_plain}
-use Rattle.rt_plain.proofs.SplitLemmas.{joined, words-joined_words, words-joined, AreWords, IsUnbroken}
+use Rattle.rt_plain.proofs.FieldLemmas.{number-again, when, unless, is_word}
+use Rattle.rt_plain.proofs.FieldListLemmas.{is_token, is_word_byte, digit_bytes}
+use Rattle.rt_plain.proofs.SplitLemmas.{words-joined_words, words-joined, IsUnbroken}
 use Rattle.rt_plain.proofs.WithinLemmas.{IsRunIn-snoc}
 use Rattle.rt_plain.proofs.SameLemmas.{run-same, IsRunIn-run}
 use Rattle.rt_plain.proofs.TraceLemmas.{AreTokens, tokens_words, event_words, header-words}
@@ -383,7 +382,7 @@ most-end b r l ls k e rest le u ends is =
     let none : k ≡ 0 = no_lines k ls rest le same.1 in
     let no_cut : bytes_eq l (cut_now b r.done) ≡ false = ap (λ (x : List ℕ). bytes_eq x (cut_now b r.done)) same.0 ∙ end-no_cut e.halt e.tick (owner_counts b.cores (events_of r.done)) in
     let here : is_end_of l r.state.tick (halt_of b r.state) ≡ true =
-        ap (is_end_of l r.state.tick) ends.0 ∙ ap (λ (t : ℕ). bytes_eq l (row_text (Ended e.halt t))) ends.1 ∙ (bytes_eq-Decides l row).1 same.0 in
+    ap (is_end_of l r.state.tick) ends.0 ∙ ap (λ (t : ℕ). bytes_eq l (row_text (Ended e.halt t))) ends.1 ∙ (bytes_eq-Decides l row).1 same.0 in
     let read : read_outer b r l ≡ Ends = unless (bytes_eq l (cut_now b r.done)) (read_cut r) _ no_cut ∙ when (is_end_of l r.state.tick (halt_of b r.state)) Ends _ here in
     subst (λ (x : Read). suc k ≤ counted_on x (λ n. pass b n ls)) (sym read) (omega arith)
 
@@ -437,13 +436,13 @@ most-entry b r l ls k e es state cut end rest few le u ih run time cuts ends is 
     let follows : may_follow b r e mid ≡ true = and_from _ _ (and_from _ _ made.0 (not_from_false _ run.1)) (not_from_false _ (not_late b (r.done ++ e ∷ []) mid (in-time-first b (r.done ++ e ∷ []) mid state es run.3 time))) in
     let front : behind_front (with_newline l) (entry_text n e) ≡ Some (lines_text e.lines) = ap (λ (x : List ℕ). behind_front (with_newline x) (entry_text n e)) same.0 ∙ own-front (with_newline top) (lines_text e.lines) in
     let read : read_outer b r l ≡ On next =
-        unless (bytes_eq l (cut_now b r.done)) (read_cut r) _ no_cut
-        ∙ unless (is_end_of l r.state.tick (halt_of b r.state)) Ends _ no_end
-        ∙ ap (read_event b r l) event
-        ∙ ap (read_made b r l e.event) made.1
-        ∙ ap (λ (x : Entry). read_entry b r l x mid) (made-entry b r.state mid e made)
-        ∙ when (may_follow b r e mid) (on_entry r e mid (behind_front (with_newline l) (entry_text n e))) Stop follows
-        ∙ ap (on_entry r e mid) front in
+    unless (bytes_eq l (cut_now b r.done)) (read_cut r) _ no_cut
+    ∙ unless (is_end_of l r.state.tick (halt_of b r.state)) Ends _ no_end
+    ∙ ap (read_event b r l) event
+    ∙ ap (read_made b r l e.event) made.1
+    ∙ ap (λ (x : Entry). read_entry b r l x mid) (made-entry b r.state mid e made)
+    ∙ when (may_follow b r e mid) (on_entry r e mid (behind_front (with_newline l) (entry_text n e))) Stop follows
+    ∙ ap (on_entry r e mid) front in
     more b ls k (read_outer b r l) next read
     (ih next k le (ended-lines e.lines) (record { journal = es; state = state; run = run.3; in_time = time; cut = cut; cuts = cuts; end = end; ends = ends; rest = rest; begins = same.1 }))
 
@@ -508,15 +507,23 @@ leaves-due b r l None fine is = tt
 leaves-due b r l (Some due) fine is = (
   record { run = fine.run; in_time = fine.in_time },
   λ k ls g. record {
-    journal = g.journal; state = g.state; run = g.run; in_time = g.in_time; cut = g.cut; cuts = g.cuts; end = g.end; ends = g.ends; rest = g.rest;
+    journal = g.journal;
+    state = g.state;
+    run = g.run;
+    in_time = g.in_time;
+    cut = g.cut;
+    cuts = g.cuts;
+    end = g.end;
+    ends = g.ends;
+    rest = g.rest;
     begins = (
-      let tail = rest_text b r.done g.journal g.cut g.end in
-      let here : r.due ≡ with_newline l ++ due = front-is (with_newline l) r.due due is in
-      append_assoc l (10 ∷ all_lines (take k ls)) g.rest
-      ∙ ap (λ (x : List ℕ). l ++ 10 ∷ x) g.begins
-      ∙ sym (append_assoc l (10 ∷ []) (due ++ tail))
-      ∙ sym (append_assoc (with_newline l) due tail)
-      ∙ ap (λ (x : List ℕ). x ++ tail) (sym here));
+        let tail = rest_text b r.done g.journal g.cut g.end in
+        let here : r.due ≡ with_newline l ++ due = front-is (with_newline l) r.due due is in
+        append_assoc l (10 ∷ all_lines (take k ls)) g.rest
+        ∙ ap (λ (x : List ℕ). l ++ 10 ∷ x) g.begins
+        ∙ sym (append_assoc l (10 ∷ []) (due ++ tail))
+        ∙ sym (append_assoc (with_newline l) due tail)
+        ∙ ap (λ (x : List ℕ). x ++ tail) (sym here));
   },
 )
 
@@ -530,14 +537,22 @@ leaves-cut b r l true fine due is here = tt
 leaves-cut b r l false fine due is here = (
   record { run = fine.run; in_time = fine.in_time },
   λ k ls g. record {
-    journal = g.journal; state = g.state; run = g.run; in_time = g.in_time; cut = Some 0; cuts = (is, omega arith); end = g.end; ends = g.ends; rest = g.rest;
+    journal = g.journal;
+    state = g.state;
+    run = g.run;
+    in_time = g.in_time;
+    cut = Some 0;
+    cuts = (is, omega arith);
+    end = g.end;
+    ends = g.ends;
+    rest = g.rest;
     begins = (
-      let tail = entries_text (length r.done + 1) g.journal ++ end_text g.end in
-      append_assoc l (10 ∷ all_lines (take k ls)) g.rest
-      ∙ ap (λ (x : List ℕ). l ++ 10 ∷ x) (g.begins ∙ ap (λ (c : Option ℕ). rest_text b r.done g.journal c g.end) (cut-none true g.journal g.cut g.cuts))
-      ∙ ap (λ (x : List ℕ). x ++ 10 ∷ tail) here
-      ∙ sym (append_assoc (cut_now b r.done) (10 ∷ []) tail)
-      ∙ ap (λ (x : List ℕ). x ++ (cut_line b r.done ++ tail)) (sym due));
+        let tail = entries_text (length r.done + 1) g.journal ++ end_text g.end in
+        append_assoc l (10 ∷ all_lines (take k ls)) g.rest
+        ∙ ap (λ (x : List ℕ). l ++ 10 ∷ x) (g.begins ∙ ap (λ (c : Option ℕ). rest_text b r.done g.journal c g.end) (cut-none true g.journal g.cut g.cuts))
+        ∙ ap (λ (x : List ℕ). x ++ 10 ∷ tail) here
+        ∙ sym (append_assoc (cut_now b r.done) (10 ∷ []) tail)
+        ∙ ap (λ (x : List ℕ). x ++ (cut_line b r.done ++ tail)) (sym due));
   },
 )
 
@@ -571,15 +586,15 @@ leaves-entry b r l e s (Some due) fine none made going late is = (
     ends = g.ends;
     rest = g.rest;
     begins = (
-      let tail = rest_text b (r.done ++ e ∷ []) g.journal g.cut g.end in
-      let here : entry_text (length r.done + 1) e ≡ with_newline l ++ due = front-is (with_newline l) (entry_text (length r.done + 1) e) due is in
-      append_assoc l (10 ∷ all_lines (take k ls)) g.rest
-      ∙ ap (λ (x : List ℕ). l ++ 10 ∷ x) g.begins
-      ∙ sym (append_assoc l (10 ∷ []) (due ++ tail))
-      ∙ sym (append_assoc (with_newline l) due tail)
-      ∙ ap (λ (x : List ℕ). x ++ tail) (sym here)
-      ∙ sym (rest-entry b r.done e g.journal g.cut g.end)
-      ∙ ap (λ (x : List ℕ). x ++ rest_text b r.done (e ∷ g.journal) (later g.cut) g.end) (sym none));
+        let tail = rest_text b (r.done ++ e ∷ []) g.journal g.cut g.end in
+        let here : entry_text (length r.done + 1) e ≡ with_newline l ++ due = front-is (with_newline l) (entry_text (length r.done + 1) e) due is in
+        append_assoc l (10 ∷ all_lines (take k ls)) g.rest
+        ∙ ap (λ (x : List ℕ). l ++ 10 ∷ x) g.begins
+        ∙ sym (append_assoc l (10 ∷ []) (due ++ tail))
+        ∙ sym (append_assoc (with_newline l) due tail)
+        ∙ ap (λ (x : List ℕ). x ++ tail) (sym here)
+        ∙ sym (rest-entry b r.done e g.journal g.cut g.end)
+        ∙ ap (λ (x : List ℕ). x ++ rest_text b r.done (e ∷ g.journal) (later g.cut) g.end) (sym none));
   },
 )
 
@@ -663,10 +678,10 @@ cut-text b done (e ∷ es) (suc at) end le =
     let size : length (done ++ e ∷ []) + 1 ≡ n + 1 = ap (λ (m : ℕ). m + 1) (length-snoc done e) in
     let far : n + 1 + at ≡ n + suc at = omega arith in
     ap (λ (x : List ℕ). entry_text n e ++ x) (
-      cut-text b (done ++ e ∷ []) es at end (omega arith)
-      ∙ ap (λ (m : ℕ). entries_text m (take at es) ++ (cut_line b (done ++ e ∷ [] ++ take at es) ++ (entries_text (m + at) (drop at es) ++ end_text end))) size
-      ∙ ap (λ (m : ℕ). front ++ (cut_line b (done ++ e ∷ [] ++ take at es) ++ (entries_text m (drop at es) ++ end_text end))) far
-      ∙ ap (λ (j : List Entry). front ++ (cut_line b j ++ back)) (append_assoc done (e ∷ []) (take at es)))
+    cut-text b (done ++ e ∷ []) es at end (omega arith)
+    ∙ ap (λ (m : ℕ). entries_text m (take at es) ++ (cut_line b (done ++ e ∷ [] ++ take at es) ++ (entries_text (m + at) (drop at es) ++ end_text end))) size
+    ∙ ap (λ (m : ℕ). front ++ (cut_line b (done ++ e ∷ [] ++ take at es) ++ (entries_text m (drop at es) ++ end_text end))) far
+    ∙ ap (λ (j : List Entry). front ++ (cut_line b j ++ back)) (append_assoc done (e ∷ []) (take at es)))
     ∙ sym (append_assoc (entry_text n e) front (cut_line b (done ++ (e ∷ take at es)) ++ back))
 
 -- the place of a cut
@@ -740,8 +755,8 @@ agreement-by-pass b text few starts =
         end_is = end-is b g.journal g.state g.end (record { is_run = g.run; last = g.in_time }) g.ends;
         rest = g.rest;
         begins = ap (λ (x : List ℕ). x ++ g.rest) (first-are k text whole) ∙ g.begins
-          ∙ ap (λ (c : Option ℕ). rest_text b [] g.journal c g.end) (sym (place-at b g.journal g.cut))
-          ∙ sym (whole-text b g.journal (cut_at b g.journal g.cut) g.end (cut-is b g.journal g.cut g.cuts));
+            ∙ ap (λ (c : Option ℕ). rest_text b [] g.journal c g.end) (sym (place-at b g.journal g.cut))
+            ∙ sym (whole-text b g.journal (cut_at b g.journal g.cut) g.end (cut-is b g.journal g.cut g.cuts));
       };
       greatest = λ m a. most b ls few (lines-unbroken text) (reader b) m (let le = a.whole in omega (arith, count)) tt (record {
         journal = a.journal;

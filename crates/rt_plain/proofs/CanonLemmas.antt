@@ -1,9 +1,9 @@
 -- A board's canonical text is a text of that board, where its lines may stand.
-use Rattle.std.proofs.Common.{◌≡◌, ℕ, ◌≤◌, Bool, true, false, not, ◌&&◌, eqb, leb, Option, Some, None, List, [], ◌∷◌, ◌++◌, map, refl, sym, ap, ◌∙◌, subst, arith, inr, append_assoc}
+use Rattle.std.proofs.Common.{◌≡◌, ℕ, ◌≤◌, true, false, not, leb, Option, Some, None, List, [], ◌∷◌, ◌++◌, map, refl, sym, ap, ◌∙◌, subst, arith, inr, append_assoc}
 use Rattle.std.specs.List.{flat_map, list_all}
 use Rattle.std.proofs.lemmas.List.Concat.{flat_map-cons}
 use Rattle.std.proofs.lemmas.List.{append-nil}
-use Rattle.std.proofs.lemmas.Bool.{and_parts, not-true, ne_eqb, leb-true}
+use Rattle.std.proofs.lemmas.Bool.{and_parts, ne_eqb, leb-true}
 use Rattle.rt_plain.specs.declared.board.SemDef.{SemDef}
 use Rattle.rt_plain.specs.declared.board.EventDef.{EventDef}
 use Rattle.rt_plain.specs.declared.board.MutexDef.{MutexDef}
@@ -23,7 +23,7 @@ use Rattle.rt_plain.specs.PlainBoard.{PlainBoard}
 use Rattle.rt_plain.specs.Texts.{with_newline}
 use Rattle.rt_plain.specs.Splits.{lines_of, is_printable}
 use Rattle.rt_plain.specs.LineTable.{row, FormValues, parts, text_of}
-use Rattle.rt_plain.specs.BoardText.{SoFar, start, added, after, scripted, is_skipped, Stands, IsLine, AreLines, IsBoard}
+use Rattle.rt_plain.specs.BoardText.{SoFar, start, added, after, scripted, is_skipped, Stands, AreLines, IsBoard}
 use Rattle.rt_plain.specs.Canon.{line_of_thread, thread_lines, shell_lines, setting_lines, limit_lines, object_lines, board_lines, text_of_lines, canonical_text, IsValid}
 use Rattle.rt_plain.proofs.SplitLemmas.{IsUnbroken, line_is}
 use Rattle.rt_plain.proofs.LineTableLemmas.{spelling, text-parts}

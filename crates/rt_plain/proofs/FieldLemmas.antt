@@ -1,11 +1,12 @@
 -- A field's value has one spelling: what is read is spelled so, and what is spelled is read.
-use Rattle.std.proofs.Common.{◌≡◌, ℕ, not, drop, get_or, ◌<◌, ◌≤◌, ◌^◌, min, Bool, true, false, ◌&&◌, ◌||◌, eqb, leb, ltb, cond, List, [], ◌∷◌, ◌++◌, length, Option, Some, None, Result, Ok, Err, refl, sym, ap, ◌∙◌, subst, arith, decimal, codes, inl, inr, ◌⊎◌}
+use Rattle.std.proofs.Common.{◌≡◌, ℕ, take, drop, drop-cons, length-drop, take-append-drop, get_or, ◌+◌, suc, ◌<◌, ◌≤◌, ◌^◌, min, Bool, true, false, ◌&&◌, ◌||◌, eqb, leb, ltb, cond, List, [], ◌∷◌, ◌++◌, length, Option, Some, None, Result, Ok, Err, refl, sym, ap, ◌∙◌, subst, arith, decimal, codes, inl, inr, ◌⊎◌}
 use Rattle.std.specs.Prelude.{IsTrue, bytes_eq}
 use Rattle.std.specs.List.{list_all}
 use Rattle.std.specs.Fmt.{digits}
-use Rattle.std.proofs.lemmas.Bool.{and_parts, and_from, or_cases, eqb-true, eq-eqb, leb-true, le-leb, ltb-true, lt-ltb, ne_eqb, eqb-false, not_from_false, cases_Bool, false_from_ne_true, both_ways}
+use Rattle.std.proofs.lemmas.Bool.{and_parts, and_from, or_cases, eqb-true, eq-eqb, leb-true, le-leb, ltb-true, lt-ltb, ne_eqb, false_from_ne_true, both_ways}
 use Rattle.std.proofs.lemmas.Fmt.{digits_decimal}
 use Rattle.std.proofs.lemmas.Slice.Eq.{bytes_eq-Decides}
+use Rattle.std.proofs.lemmas.List.{nil_from_length}
 use Rattle.std.proofs.lemmas.List.Folds.{list_all-append}
 use Rattle.std.proofs.lemmas.List.Elements.{recursion_from_All, All-from_recursion}
 use Rattle.rt_base.specs.Grammar.{is_name, is_text}
@@ -332,6 +333,23 @@ split-none byte (b ∷ bs) h = rw (split-none byte bs h.1, h.0) refl
 pub split-again : (byte : ℕ) (xs ys : List ℕ) → IsWithout byte ys → split_last byte (xs ++ byte ∷ ys) ≡ Some (xs, ys)
 split-again byte [] ys h = rw (split-none byte ys h) (when (eqb byte byte) _ _ (eq-eqb byte byte refl))
 split-again byte (x ∷ xs) ys h = rw (split-again byte xs ys h) refl
+
+pub without_more : (byte : ℕ) (xs : List ℕ) (i : ℕ) → i < length xs → IsWithout byte (drop (i + 1) xs) → eqb (get_or xs i 0) byte ≡ false → IsWithout byte (drop i xs)
+without_more byte xs i lt h e =
+    let next : suc i ≡ i + 1 = omega arith in
+    subst (IsWithout byte) (sym (drop-cons xs i 0 lt)) (e, subst (λ (n : ℕ). IsWithout byte (drop n xs)) (sym next) h)
+
+pub last_found : (byte : ℕ) (xs : List ℕ) (i : ℕ) → i < length xs → IsWithout byte (drop (i + 1) xs) → eqb (get_or xs i 0) byte ≡ true → split_last byte xs ≡ Some (take i xs, drop (i + 1) xs)
+last_found byte xs i lt h e =
+    let next : suc i ≡ i + 1 = omega arith in
+    let there : drop i xs ≡ byte ∷ drop (i + 1) xs = drop-cons xs i 0 lt ∙ ap (λ (b : ℕ). b ∷ drop (suc i) xs) (eqb-true (get_or xs i 0) byte e) ∙ ap (λ (n : ℕ). byte ∷ drop n xs) next in
+    ap (split_last byte) (sym (take-append-drop i xs) ∙ ap (λ (t : List ℕ). take i xs ++ t) there) ∙ split-again byte (take i xs) (drop (i + 1) xs) h
+
+pub none_found : (byte : ℕ) (xs : List ℕ) → IsWithout byte xs → split_last byte xs ≡ None
+none_found byte xs h = split-none byte xs h
+
+pub without_none : (byte n : ℕ) (xs : List ℕ) → length xs ≤ n → IsWithout byte (drop n xs)
+without_none byte n xs le = subst (IsWithout byte) (sym (nil_from_length (drop n xs) (omega (arith, length-drop n xs)))) tt
 
 abbrev IsSplitAt : ℕ → List ℕ → List ℕ × List ℕ → Type 0
 IsSplitAt byte bs p = bs ≡ p.0 ++ byte ∷ p.1

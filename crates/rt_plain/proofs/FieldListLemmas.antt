@@ -1,13 +1,11 @@
 -- Lists of fields: the values that words are, and the words that values are.
-use Rattle.std.proofs.Common.{◌≡◌, ℕ, zero, suc, ◌+◌, ◌<◌, ◌≤◌, ◌^◌, Bool, true, false, not, ◌&&◌, eqb, leb, ltb, List, [], ◌∷◌, ◌++◌, length, get_or, drop, Option, Some, None, Result, Ok, Err, refl, sym, ap, ◌∙◌, subst, arith, inl, inr, drop-cons, length-append, length-drop, decimal, codes, append_assoc, ◌⊎◌}
-use Rattle.std.specs.Prelude.{IsTrue, IfSome}
+use Rattle.std.proofs.Common.{◌≡◌, ℕ, zero, suc, ◌+◌, ◌<◌, ◌≤◌, ◌^◌, Bool, true, false, not, ◌&&◌, eqb, leb, ltb, List, [], ◌∷◌, ◌++◌, length, get_or, drop, Option, Some, None, Result, Ok, Err, refl, sym, ap, ◌∙◌, arith, inl, inr, drop-cons, length-append, decimal, append_assoc}
 use Rattle.std.specs.List.{list_all, list_any, flat_map}
 use Rattle.std.specs.Fmt.{digits}
 use Rattle.std.proofs.lemmas.List.Concat.{flat_map-cons}
 use Rattle.std.proofs.lemmas.List.Folds.{list_all-append}
-use Rattle.std.proofs.lemmas.List.{nil_from_length}
 use Rattle.std.proofs.lemmas.List.Elements.{recursion_from_All}
-use Rattle.std.proofs.lemmas.Bool.{and_parts, and_from, not-true, not_from_true, not_from_false, leb-true, le-leb, ltb-true, ne_eqb, cases_Bool}
+use Rattle.std.proofs.lemmas.Bool.{and_parts, and_from, not-true, not_from_false, leb-true, le-leb, ltb-true, ne_eqb, cases_Bool}
 use Rattle.std.proofs.lemmas.Bool.Decides.{nat_tests}
 use Rattle.std.proofs.lemmas.Fmt.{digits_decimal, decimal_nonempty}
 use Rattle.std.proofs.Math.Seq.{get_or-append_seam}
@@ -23,9 +21,9 @@ use Rattle.rt_plain.specs.declared.why.Why.{Why}
 use Rattle.rt_plain.specs.declared.line.Woke.{Woke}
 use Rattle.rt_plain.specs.declared.line.Fired.{Fired}
 use Rattle.rt_plain.specs.Texts.{quoted_text, code_or_wait, woke_text, fired_text}
-use Rattle.rt_plain.specs.Words.{code_text, sleep_text, run_mode_text, order_text, class_text}
+use Rattle.rt_plain.specs.Words.{code_text, sleep_text, run_mode_text, class_text}
 use Rattle.rt_plain.specs.Splits.{word_at, is_printable, is_empty}
-use Rattle.rt_plain.specs.Fields.{Field, Value, Fits, spelled, value_in, is_digit, Number, Levels, Core, Wait, Named, Indicated, Quoted, Coded, Ordered, Said, Classed, Moded, Ran, Repeated, Started, Armed, How, Keep, OnOff, Powered, Placed, Answered, Woken, Acted, Changed, Received, what_text, timer_kind_text, is_deletable}
+use Rattle.rt_plain.specs.Fields.{Field, Value, Fits, spelled, value_in, is_digit, Number, Levels, Core, Wait, Named, Indicated, Quoted, Coded, Ordered, Said, Classed, Moded, Ran, Repeated, Started, Armed, How, Keep, OnOff, Powered, Placed, Answered, Woken, Acted, Changed, Received, what_text}
 use Rattle.rt_plain.specs.FieldLists.{Values, spelled_all, Fit, both, values_in, no_words, Always}
 use Rattle.rt_plain.proofs.NumberLemmas.{own}
 use Rattle.rt_plain.proofs.QuoteLemmas.{text-printable}

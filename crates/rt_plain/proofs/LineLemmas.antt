@@ -1,12 +1,12 @@
 -- A line that is read as something is its line, and the line of something is read as that.
-use Rattle.std.proofs.Common.{◌≡◌, ℕ, zero, suc, ◌+◌, ◌<◌, ◌≤◌, Bool, true, false, not, ◌&&◌, ◌||◌, eqb, leb, cond, List, [], ◌∷◌, ◌++◌, length, drop, Option, Some, None, Result, Ok, Err, refl, sym, ap, ◌∙◌, subst, arith, inl, inr, length-drop, codes}
+use Rattle.std.proofs.Common.{◌≡◌, ℕ, suc, ◌+◌, ◌≤◌, Bool, true, false, not, ◌&&◌, ◌||◌, eqb, leb, cond, List, [], ◌∷◌, ◌++◌, length, drop, Option, Some, None, Result, Ok, Err, refl, sym, ap, ◌∙◌, subst, arith, inl, inr, codes}
 use Rattle.std.specs.Prelude.{bytes_eq}
 use Rattle.std.specs.List.{list_all, list_any, flat_map}
 use Rattle.std.specs.Fmt.{digits}
 use Rattle.std.proofs.lemmas.List.Concat.{flat_map-cons}
 use Rattle.std.proofs.lemmas.List.Folds.{list_all-append}
 use Rattle.std.proofs.lemmas.Slice.Eq.{bytes_eq-Decides}
-use Rattle.std.proofs.lemmas.Bool.{and_parts, and_from, not-true, not-false, not_from_true, not_from_false, eqb-true, eq-eqb, leb-true, le-leb, and_cases, and_left, and_right}
+use Rattle.std.proofs.lemmas.Bool.{and_parts, and_from, not-false, not_from_true, eqb-true, leb-true, le-leb, and_cases, and_left, and_right}
 use Rattle.rt_plain.specs.declared.why.Why.{Why}
 use Rattle.rt_plain.specs.declared.kind.Kind.{Kind}
 use Rattle.rt_plain.specs.declared.kind.LineKind.{LineKind}
@@ -16,14 +16,14 @@ use Rattle.rt_plain.specs.declared.stmt.Stmt.{Stmt}
 use Rattle.rt_plain.specs.PlainBoard.{PlainBoard}
 use Rattle.rt_plain.specs.Splits.{words_of, word_at, is_printable, is_empty}
 use Rattle.rt_plain.specs.Fields.{result_map}
-use Rattle.rt_plain.specs.FieldLists.{Values, spelled_all, Fit, values_in, ended}
-use Rattle.rt_plain.specs.StatementTable.{all_statements, statement_word, statement_named, statement_row, statement_made, statement_in}
+use Rattle.rt_plain.specs.FieldLists.{spelled_all, Fit, values_in, ended}
+use Rattle.rt_plain.specs.StatementTable.{statement_row, statement_made, statement_in}
 use Rattle.rt_plain.specs.declared.kind.Tail.{Tail}
 use Rattle.rt_plain.specs.Tails.{TailValue, tail_words, TailFits, is_counted, tail_in}
 use Rattle.rt_plain.specs.LineTable.{all_lines, line_named, form, row, kind_named, FormValues, made, parts, kind_of, text_of, FitsLine, indent, line_in, said_in}
-use Rattle.rt_plain.specs.BoardText.{SoFar, is_out_of_order, is_passed_limit, is_limit_passed, is_twice, is_full, is_astray, is_head, Stands, IsLine, refused, ◌>>=◌, is_indented, words_behind, first_of, found, has_count, placed, of_kind, of_words, judged}
+use Rattle.rt_plain.specs.BoardText.{SoFar, is_out_of_order, is_passed_limit, is_limit_passed, is_twice, is_full, is_astray, is_head, IsLine, refused, ◌>>=◌, is_indented, words_behind, first_of, found, has_count, placed, of_kind, of_words, judged}
 use Rattle.rt_plain.proofs.FieldLemmas.{ok_is, map_ok}
-use Rattle.rt_plain.proofs.FieldListLemmas.{ArePrintable, Told, values-take, values-again, printable_behind, length_spelled, drop_spelled, last_value, last_fits, token_plain, token_printable, fields_printable, spaced_are_printable, words_full}
+use Rattle.rt_plain.proofs.FieldListLemmas.{ArePrintable, values-take, values-again, printable_behind, length_spelled, drop_spelled, last_value, last_fits, token_plain, token_printable, fields_printable, spaced_are_printable, words_full}
 use Rattle.rt_plain.proofs.StatementTableLemmas.{first_rest}
 use Rattle.rt_plain.proofs.TailLemmas.{tail-takes, tail-again, tail-counted, tail_printable}
 use Rattle.rt_plain.proofs.SplitLemmas.{joined, words-joined, joined-words, AreWords}

@@ -1,8 +1,7 @@
 -- What holds of each row of the table of lines.
-use Rattle.std.proofs.Common.{◌≡◌, ℕ, ◌+◌, ◌<◌, ◌≤◌, Bool, true, false, not, ◌&&◌, ◌||◌, eqb, cond, List, [], ◌∷◌, ◌++◌, length, Option, Some, None, refl, sym, ap, ◌∙◌, subst, arith}
+use Rattle.std.proofs.Common.{◌≡◌, ℕ, ◌<◌, ◌≤◌, Bool, true, false, List, ◌∷◌, ◌++◌, length, Option, Some, None, refl, ap, ◌∙◌, subst, arith}
 use Rattle.std.specs.Prelude.{IfSome, bytes_eq}
 use Rattle.std.specs.Option.{option_map}
-use Rattle.std.specs.List.{find, list_all}
 use Rattle.std.proofs.lemmas.Slice.Eq.{bytes_eq-Decides}
 use Rattle.std.proofs.lemmas.Bool.{leb-false}
 use Rattle.rt_plain.specs.declared.kind.Kind.{Kind}
@@ -12,7 +11,6 @@ use Rattle.rt_plain.specs.declared.board_line.BoardLine.{BoardLine}
 use Rattle.rt_plain.specs.declared.stmt.Stmt.{Stmt}
 use Rattle.rt_plain.specs.declared.stmt.Call.{Call}
 use Rattle.rt_plain.specs.PlainBoard.{PlainBoard}
-use Rattle.rt_plain.specs.Words.{words}
 use Rattle.rt_plain.specs.Splits.{word_at}
 use Rattle.rt_plain.specs.Fields.{Field}
 use Rattle.rt_plain.specs.FieldLists.{Values, spelled_all, Fit}
@@ -24,7 +22,7 @@ use Rattle.rt_plain.specs.LineTable.{line_row, all_lines, form, row, line_named,
 use Rattle.rt_plain.specs.BoardText.{is_astray, is_beyond, is_passed_limit, is_class_passed, is_limit_passed, is_indented}
 use Rattle.rt_plain.proofs.FieldListLemmas.{Told, is_token, quoted_last, unquoted_fields, spelled_words, spelled_words_before}
 use Rattle.rt_plain.proofs.SplitLemmas.{joined, words-joined_words, AreWords, IsPlain}
-use Rattle.rt_plain.proofs.StatementTableLemmas.{told_without, has_no_core, find_some, some_is, statement-named}
+use Rattle.rt_plain.proofs.StatementTableLemmas.{told_without, find_some, some_is, statement-named}
 use Rattle.rt_plain.proofs.TailLemmas.{named-limit, tail_plain}
 
 -- ---- what a line is made of

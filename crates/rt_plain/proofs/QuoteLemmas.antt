@@ -1,11 +1,11 @@
 -- A quoted_text text has one spelling.
-use Rattle.std.proofs.Common.{◌≡◌, ℕ, suc, ◌+◌, ◌*◌, ◌/◌, ◌%◌, ◌<◌, ◌≤◌, Bool, true, false, not, ◌&&◌, eqb, leb, ltb, cond, List, [], ◌∷◌, ◌++◌, length, get_or, drop, drop-cons, length-drop, length-append, Option, Some, None, Ok, Err, refl, sym, ap, ◌∙◌, subst, arith, codes, inl, inr, ◌⊎◌, append_assoc}
+use Rattle.std.proofs.Common.{◌≡◌, ℕ, suc, ◌+◌, ◌*◌, ◌/◌, ◌%◌, ◌<◌, ◌≤◌, Bool, true, false, not, ◌&&◌, eqb, leb, cond, List, [], ◌∷◌, ◌++◌, length, get_or, drop, drop-cons, length-drop, length-append, Option, Some, None, Ok, Err, refl, sym, ap, ◌∙◌, subst, arith, codes, inl, inr, ◌⊎◌, append_assoc}
 use Rattle.std.specs.List.{list_all, flat_map, AllByRecursion}
 use Rattle.std.specs.Fmt.{digit_glyph}
 use Rattle.std.proofs.lemmas.List.{nil_from_length, append-nil}
 use Rattle.std.proofs.lemmas.List.Concat.{flat_map-cons}
 use Rattle.std.proofs.lemmas.List.Folds.{list_all-append}
-use Rattle.std.proofs.lemmas.Bool.{and_parts, and_from, not-true, not_from_false, eqb-true, eq-eqb, ne_eqb, leb-true, le-leb, ltb-true, lt-ltb, cases_Bool, lt-leb, and_right}
+use Rattle.std.proofs.lemmas.Bool.{and_parts, and_from, not-true, not_from_false, eqb-true, eq-eqb, ne_eqb, leb-true, le-leb, lt-ltb, cases_Bool, lt-leb, and_right}
 use Rattle.std.proofs.lemmas.Bool.Decides.{nat_tests}
 use Rattle.rt_base.specs.Grammar.{is_text}
 use Rattle.rt_plain.specs.declared.why.Why.{Why}

@@ -1,7 +1,7 @@
 -- What stands behind the fields of a line: limits, schedules and calls are read as they are spelled.
-use Rattle.std.proofs.Common.{◌≡◌, ℕ, suc, ◌+◌, ◌-◌, ◌≤◌, ◌<◌, ◌^◌, Bool, true, false, not, ◌&&◌, eqb, leb, cond, List, [], ◌∷◌, ◌++◌, length, map, drop, Option, Some, None, Result, Ok, Err, refl, sym, ap, ◌∙◌, subst, arith, get_or, Bor, drop-cons, length-drop, append_assoc, decimal, codes, inl, inr, ◌⊎◌}
+use Rattle.std.proofs.Common.{◌≡◌, ℕ, suc, ◌+◌, ◌-◌, ◌≤◌, ◌<◌, Bool, true, false, ◌&&◌, eqb, leb, cond, List, [], ◌∷◌, ◌++◌, length, map, drop, Option, Some, None, Result, Ok, Err, refl, sym, ap, ◌∙◌, subst, arith, get_or, Bor, drop-cons, length-drop, append_assoc, decimal, codes, inl, inr}
 use Rattle.std.specs.Prelude.{bytes_eq}
-use Rattle.std.specs.List.{list_all, AllByRecursion}
+use Rattle.std.specs.List.{AllByRecursion}
 use Rattle.std.proofs.lemmas.List.{nil_from_length, append-nil}
 use Rattle.std.proofs.lemmas.List.Elements.{recursion_from_All, All-from_recursion}
 use Rattle.std.proofs.lemmas.Bool.{and_parts, and_from, eqb-true, eq-eqb, leb-true, le-leb, cases_Bool}
@@ -12,16 +12,16 @@ use Rattle.rt_plain.specs.declared.board_line.LimitClass.{LimitClass}
 use Rattle.rt_plain.specs.declared.kind.StatementKind.{StatementKind}
 use Rattle.rt_plain.specs.declared.stmt.Stmt.{Stmt}
 use Rattle.rt_plain.specs.declared.why.Why.{Why}
-use Rattle.rt_plain.specs.Splits.{word_at, is_printable}
+use Rattle.rt_plain.specs.Splits.{word_at}
 use Rattle.rt_plain.specs.Fields.{is_digit, is_number, number_in, result_map}
-use Rattle.rt_plain.specs.StatementTable.{statement_word, statement_named, statement_count, statement_kind, statement_words, FitsStatement, statement_in}
+use Rattle.rt_plain.specs.StatementTable.{statement_word, statement_named, statement_count, statement_kind, statement_words, FitsStatement}
 use Rattle.rt_plain.specs.declared.kind.Tail.{Tail}
 use Rattle.rt_plain.specs.declared.kind.Tail.TheVariants.{Ends, SetsLimit, SetsSchedule, MakesCall}
 use Rattle.rt_plain.specs.Tails.{TailValue, limit_word, event_text, schedule_words, timer_call_words, tail_words, limit_top, FitsEvent, FitsSchedule, FitsTimerCall, TailFits, is_counted_schedule, is_counted_statement, is_counted_call, is_counted, limit_named, limit_of, limit_in, event_in, event_before, events_in, schedule_in, statement_of, timer_call_in, tail_in}
-use Rattle.rt_plain.proofs.FieldLemmas.{chosen, when, unless, kept, map_ok, ok_is, is_word, is_same, number-takes, number-again}
+use Rattle.rt_plain.proofs.FieldLemmas.{chosen, when, unless, kept, map_ok, ok_is, is_word, number-takes, number-again}
 use Rattle.rt_plain.proofs.FieldListLemmas.{ArePrintable, AreBehind, digits_token, digit_byte, token_plain, token_printable, is_token, words_behind_plain}
 use Rattle.rt_plain.proofs.StatementTableLemmas.{statement-takes, statement-again, statement_length, statement_are_words, statement_printable, statement_front, named-statement, statement-named, some_is}
-use Rattle.rt_plain.proofs.SplitLemmas.{AreWords, IsPlain, nows}
+use Rattle.rt_plain.proofs.SplitLemmas.{nows}
 
 -- ---- limits
 

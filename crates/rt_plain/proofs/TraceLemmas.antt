@@ -1,12 +1,12 @@
 -- Each row of a trace is read back, and its rows are those of one journal.
-use Rattle.std.proofs.Common.{◌≡◌, ℕ, zero, suc, ◌+◌, ◌<◌, ◌≤◌, ◌^◌, Bool, true, false, not, eqb, leb, cond, List, [], ◌∷◌, ◌++◌, length, length-take, length-drop, map, take, drop, take-append-drop, Option, Some, None, Result, Ok, Err, refl, sym, ap, ◌∙◌, subst, arith, inl, decimal, codes, append_assoc}
+use Rattle.std.proofs.Common.{◌≡◌, ℕ, zero, suc, ◌+◌, ◌<◌, ◌≤◌, ◌^◌, Bool, true, false, not, eqb, leb, cond, List, [], ◌∷◌, ◌++◌, length, length-take, length-drop, map, take, drop, drop-cons, get_or, ◌&&◌, take-append-drop, Option, Some, None, Result, Ok, Err, refl, sym, ap, ◌∙◌, subst, arith, inl, decimal, codes, append_assoc}
 use Rattle.std.specs.Prelude.{option_map, bytes_eq, All}
 use Rattle.std.specs.List.{list_all, flat_map, AllByRecursion}
-use Rattle.std.specs.Fmt.{digits}
 use Rattle.std.proofs.lemmas.List.Concat.{flat_map-cons, flat_map-append}
+use Rattle.std.proofs.lemmas.List.{append-nil, take_all}
 use Rattle.std.proofs.lemmas.List.Folds.{list_all-append}
 use Rattle.std.proofs.lemmas.List.Elements.{recursion_from_All, All-from_recursion}
-use Rattle.std.proofs.lemmas.Bool.{and_from, and_parts, leb-true, ne_eqb, eq-eqb}
+use Rattle.std.proofs.lemmas.Bool.{and_from, and_parts, leb-true, le-leb, ne_eqb, eq-eqb, eqb-true, false_from_ne_true}
 use Rattle.std.proofs.lemmas.Fmt.{digits_decimal}
 use Rattle.rt_base.specs.declared.codes.Event.{Event}
 use Rattle.rt_base.specs.declared.codes.Halt.{Halt}
@@ -16,14 +16,15 @@ use Rattle.rt_plain.specs.declared.kind.TraceKind.{TraceKind}
 use Rattle.rt_plain.specs.declared.line.Line.{Line}
 use Rattle.rt_plain.specs.declared.why.Why.{Why}
 use Rattle.rt_plain.specs.Words.{words, halt_text, sleep_text}
-use Rattle.rt_plain.specs.Texts.{End, line_text, quoted_text, code_or_wait, woke_text, fired_text, with_newline, indented_line, at_tick, header, entry_text, entries_text, cut_text, body_text, end_text, trace_text}
-use Rattle.rt_plain.specs.Splits.{words_of, word_at, is_printable}
-use Rattle.rt_plain.specs.Fields.{Field, number_in, listed_in, result_map, paired, spelled}
-use Rattle.rt_plain.specs.FieldLists.{Values, spelled_all, Fit, values_in, Always, ended, no_words}
+use Rattle.rt_plain.specs.Texts.{End, line_text, quoted_text, code_or_wait, woke_text, fired_text, with_newline, indented_line, header, entry_text, entries_text, cut_text, body_text, end_text, trace_text}
+use Rattle.rt_plain.specs.Splits.{words_of, is_printable}
+use Rattle.rt_plain.specs.Fields.{number_in, result_map, paired}
+use Rattle.rt_plain.specs.FieldLists.{spelled_all, Fit, Always, ended, no_words}
+use Rattle.rt_plain.specs.Runs.{events_of}
 use Rattle.rt_plain.specs.BoardText.{refused, ◌>>=◌, is_indented, words_behind, first_of}
-use Rattle.rt_plain.specs.TraceRows.{TraceRow, Headed, Shown, Counted, Ended, row_text, text_of_rows, entry_rows, entries_rows, body_rows, end_rows, trace_rows, trace_form, all_trace_kinds, trace_word, trace_count, trace_named, TraceValues, line_made, line_kind, line_values, CanShow, CanHappen, CanStand, CanBeWritten, StandsIn, CanCount, CanEnd, IsTrace, line_in, shown_in, number_said, number_behind, all_halts, halt_in, header_of, header_in, end_in, counts_in, outer_said, row_said, with_cores, row_in, lengthen, whole_lines_of}
+use Rattle.rt_plain.specs.TraceRows.{TraceRow, Headed, Shown, Counted, Ended, row_text, text_of_rows, entry_rows, entries_rows, body_rows, end_rows, trace_rows, trace_form, all_trace_kinds, trace_word, trace_count, trace_named, TraceValues, line_made, line_kind, line_values, CanShow, CanHappen, CanStand, CanBeWritten, StandsIn, CanCount, CanEnd, IsTrace, line_in, shown_in, number_said, number_behind, halt_in, header_in, end_in, counts_in, outer_said, row_of_words, row_said, whole_lines_of, event_of_row, told_of_row, are_counts, events_from, told_by, events_in, events_told, with_cores, HasCores}
 use Rattle.rt_plain.proofs.NumberLemmas.{own}
-use Rattle.rt_plain.proofs.FieldLemmas.{number-again, not_digits, when, unless, ok_is, is_same}
+use Rattle.rt_plain.proofs.FieldLemmas.{number-again, not_digits, when, unless, ok_is}
 use Rattle.rt_plain.proofs.FieldListLemmas.{is_token, is_word_byte, quoted_last, digit_bytes, digits_token, token_plain, token_printable, spelled_words, fields_printable, values-again, length_spelled, spaced_are_printable, ArePrintable}
 use Rattle.rt_plain.proofs.SplitLemmas.{joined, words-joined_words, words-joined, AreWords, IsUnbroken}
 
@@ -73,6 +74,10 @@ word-named : (k : TraceKind) → trace_named (trace_form k).word ≡ Some k
 unfolding trace_named trace_word all_trace_kinds
 word-named TraceKind.Run = refl
 word-named _ = refl
+
+pub kinds-count : length all_trace_kinds ≡ 18
+unfolding all_trace_kinds
+kinds-count = refl
 
 word-token : (k : TraceKind) → is_token (trace_form k).word ≡ true
 word-token TraceKind.Run = refl
@@ -128,7 +133,7 @@ outer-again (b ∷ bs) ws e h =
     let out : is_indented line ≡ false = flush b _ (token_plain (b ∷ bs) e).1 in
     let split : words_behind line ≡ (b ∷ bs) ∷ ws = ap words_of (unless (is_indented line) (drop 2 line) line out) ∙ words-joined ((b ∷ bs) ∷ ws) (tokens_words (b ∷ bs) ws e h) in
     ap row_said (words-joined_words ((b ∷ bs) ∷ ws))
-    ∙ unless (is_indented line) (result_map (λ (l : Line). Shown l) (shown_in (words_behind line) (trace_named (first_of (words_behind line))))) (outer_said (words_behind line)) out
+    ∙ ap (λ (t : Bool). row_of_words t (words_behind line)) out
     ∙ ap outer_said split
 
 number-read : (n : ℕ) → n < 2 ^ 32 → number_said (decimal n) ≡ Ok n
@@ -284,8 +289,8 @@ body-text journal (Some cut) =
     text-append (entries_rows 1 (take cut.at journal)) (Counted cut.counts.items ∷ entries_rows (cut.at + 1) (drop cut.at journal))
     ∙ ap (λ (t : List ℕ). t ++ text_of_rows (Counted cut.counts.items ∷ entries_rows (cut.at + 1) (drop cut.at journal))) (entries-text 1 (take cut.at journal))
     ∙ ap (λ (t : List ℕ). entries_text 1 (take cut.at journal) ++ t) (
-      flat_map-cons (λ (r : TraceRow). with_newline (row_text r)) (Counted cut.counts.items) (entries_rows (cut.at + 1) (drop cut.at journal))
-      ∙ ap (λ (t : List ℕ). cut_text cut ++ t) (entries-text (cut.at + 1) (drop cut.at journal)))
+    flat_map-cons (λ (r : TraceRow). with_newline (row_text r)) (Counted cut.counts.items) (entries_rows (cut.at + 1) (drop cut.at journal))
+    ∙ ap (λ (t : List ℕ). cut_text cut ++ t) (entries-text (cut.at + 1) (drop cut.at journal)))
     ∙ sym (append_assoc (entries_text 1 (take cut.at journal)) (cut_text cut) (entries_text (cut.at + 1) (drop cut.at journal)))
 
 end-text : (end : Option End) → text_of_rows (end_rows end) ≡ end_text end
@@ -464,3 +469,193 @@ rows-back (r ∷ rs) h = (row-again r h.0, rows-back rs h.1)
 
 pub rows-all : (rs : List TraceRow) → AreWritten rs → All (λ r. row_said (row_text r) ≡ Ok r) rs
 rows-all rs h = All-from_recursion (λ (r : TraceRow). row_said (row_text r) ≡ Ok r) rs (rows-back rs h)
+
+-- ---- for the code
+
+pub behind_byte : (byte high : ℕ) (w : List ℕ) → 0 < length w → get_or w 0 0 ≡ byte → number_behind byte high w ≡ number_in 0 high (drop 1 w)
+behind_byte byte high [] lt e = absurd (omega arith)
+behind_byte byte high (b ∷ bs) lt e = when (eqb b byte) (number_in 0 high bs) (Err Why.Choice) (eq-eqb b byte e)
+
+pub behind_other : (byte high : ℕ) (w : List ℕ) → (0 < length w → get_or w 0 0 ≡ byte → ⊥) → number_behind byte high w ≡ Err Why.Choice
+behind_other byte high [] h = refl
+behind_other byte high (b ∷ bs) h = unless (eqb b byte) (number_in 0 high bs) (Err Why.Choice) (ne_eqb b byte (h (omega arith)))
+
+counted-step : (n : ℕ) (r : Result (List ℕ) Why) → are_counts (result_map (λ p. p.0 ∷ p.1) (paired (Ok n) r)) ≡ are_counts r
+counted-step n (Ok ns) = refl
+counted-step n (Err e) = refl
+
+-- one number more
+pub counts_step : (w : List ℕ) (ws : List (List ℕ)) (n : ℕ) → number_said w ≡ Ok n → are_counts (counts_in (w ∷ ws)) ≡ are_counts (counts_in ws)
+counts_step w ws n e = ap (λ (r : Result ℕ Why). are_counts (result_map (λ p. p.0 ∷ p.1) (paired r (counts_in ws)))) e ∙ counted-step n (counts_in ws)
+
+pub counts_stop : (w : List ℕ) (ws : List (List ℕ)) (e : Why) → number_said w ≡ Err e → are_counts (counts_in (w ∷ ws)) ≡ Err e
+counts_stop w ws e is = ap (λ (r : Result ℕ Why). are_counts (result_map (λ p. p.0 ∷ p.1) (paired r (counts_in ws)))) is
+
+-- as many numbers as words
+pairs-ok : (r : Result ℕ Why) (q : Result (List ℕ) Why) (ns : List ℕ) → result_map (λ p. p.0 ∷ p.1) (paired r q) ≡ Ok ns → (ms : List ℕ) × (q ≡ Ok ms) × (length ns ≡ suc (length ms))
+pairs-ok (Ok n) (Ok ms) ns e = (ms, refl, sym (ap length (ok_is (n ∷ ms) ns e)))
+pairs-ok (Ok n) (Err d) ns e = absurd cc
+pairs-ok (Err d) (Ok ms) ns e = absurd cc
+pairs-ok (Err d) (Err f) ns e = absurd cc
+
+counts-length : (ws : List (List ℕ)) (ns : List ℕ) → counts_in ws ≡ Ok ns → length ns ≡ length ws
+counts-length [] ns e = sym (ap length (ok_is [] ns e))
+counts-length (w ∷ ws) ns e = let p = pairs-ok (number_said w) (counts_in ws) ns e in p.2 ∙ ap suc (counts-length ws p.0 p.1)
+
+-- what a `cut` line tells
+abbrev cut_tells : Result (List ℕ) Why → Result (Option Event) Why
+cut_tells r = told_of_row (result_map (λ ns. Counted ns) r)
+
+pub cut_no_number : (r : Result (List ℕ) Why) (e : Why) → are_counts r ≡ Err e → cut_tells r ≡ Err e
+cut_no_number (Ok ns) e is = absurd cc
+cut_no_number (Err d) e is = ap (λ (x : Result (Unit {0}) Why). cut_tells (unkept x)) is where
+  unkept : Result (Unit {0}) Why → Result (List ℕ) Why
+  unkept (Ok t) = Ok []
+  unkept (Err d) = Err d
+
+counted-of : (ns : List ℕ) (t : Bool) → (leb 1 (length ns) && leb (length ns) 8) ≡ t → cut_tells (Ok ns) ≡ cond t (Ok None) (Err Why.Words)
+counted-of ns t e = ap (λ (b : Bool). result_map event_of_row (refused (not b) Why.Words (Ok (Counted ns)))) e ∙ by_test t where
+  by_test : (t : Bool) → result_map event_of_row (refused (not t) Why.Words (Ok (Counted ns))) ≡ cond t (Ok None) (Err Why.Words)
+  by_test true = refl
+  by_test false = refl
+
+cut-of : (ws : List (List ℕ)) (r : Result (List ℕ) Why) (t : Bool) → counts_in ws ≡ r → are_counts r ≡ Ok tt → (leb 1 (length ws) && leb (length ws) 8) ≡ t → cut_tells r ≡ cond t (Ok None) (Err Why.Words)
+cut-of ws (Ok ns) t is ok e = counted-of ns t (ap (λ (n : ℕ). leb 1 n && leb n 8) (counts-length ws ns is) ∙ e)
+cut-of ws (Err d) t is ok e = absurd cc
+
+pub cut_with_cores : (ws : List (List ℕ)) → are_counts (counts_in ws) ≡ Ok tt → 1 ≤ length ws → length ws ≤ 8 → cut_tells (counts_in ws) ≡ Ok None
+cut_with_cores ws ok some few = cut-of ws (counts_in ws) true refl ok (and_from _ _ (le-leb 1 (length ws) some) (le-leb (length ws) 8 few))
+
+pub cut_without_cores : (ws : List (List ℕ)) → are_counts (counts_in ws) ≡ Ok tt → (1 ≤ length ws → length ws ≤ 8 → ⊥) → cut_tells (counts_in ws) ≡ Err Why.Words
+cut_without_cores ws ok other = cut-of ws (counts_in ws) false refl ok (false_from_ne_true _ (λ e. let p = and_parts (leb 1 (length ws)) (leb (length ws) 8) e in other (leb-true 1 (length ws) p.0) (leb-true (length ws) 8 p.1)))
+
+-- ---- lines that end with a newline
+
+pub whole_line_at : (xs : List ℕ) (i : ℕ) → i < length xs → IsUnbroken (take i xs) → eqb (get_or xs i 0) 10 ≡ true → whole_lines_of xs ≡ take i xs ∷ whole_lines_of (drop (i + 1) xs)
+whole_line_at xs i lt h e =
+    let next : suc i ≡ i + 1 = omega arith in
+    let there : drop i xs ≡ 10 ∷ drop (i + 1) xs = drop-cons xs i 0 lt ∙ ap (λ (b : ℕ). b ∷ drop (suc i) xs) (eqb-true _ _ e) ∙ ap (λ (n : ℕ). 10 ∷ drop n xs) next in
+    ap whole_lines_of (sym (take-append-drop i xs) ∙ ap (λ (t : List ℕ). take i xs ++ t) there) ∙ whole-line (take i xs) (drop (i + 1) xs) h
+
+no-line : (xs : List ℕ) → IsUnbroken xs → whole_lines_of xs ≡ []
+no-line [] h = refl
+no-line (b ∷ bs) h = rw (h.0, no-line bs h.1) refl
+
+pub no_whole_line : (xs : List ℕ) (n : ℕ) → length xs ≤ n → IsUnbroken (take n xs) → whole_lines_of xs ≡ []
+no_whole_line xs n le h = no-line xs (subst IsUnbroken (take_all n xs le) h)
+
+-- ---- the events that are read
+
+events-step : (l : List ℕ) (ls : List (List ℕ)) (o : Result (Option Event) Why) → told_by l ≡ o → events_in (l ∷ ls) ≡ events_from o (events_in ls)
+events-step l ls o e = ap (λ (r : Result (Option Event) Why). events_from r (events_in ls)) e
+
+pub events_more : (events : List Event) (l : List ℕ) (ls : List (List ℕ)) (e : Event) → told_by l ≡ Ok (Some e) → events ++ e ∷ [] ++ events_in ls ≡ events ++ events_in (l ∷ ls)
+events_more events l ls e is = append_assoc events (e ∷ []) (events_in ls) ∙ ap (λ (x : List Event). events ++ x) (sym (events-step l ls (Ok (Some e)) is))
+
+pub events_same : (events : List Event) (l : List ℕ) (ls : List (List ℕ)) → told_by l ≡ Ok None → events ++ events_in ls ≡ events ++ events_in (l ∷ ls)
+events_same events l ls is = ap (λ (x : List Event). events ++ x) (sym (events-step l ls (Ok None) is))
+
+pub events_stop : (events : List Event) (l : List ℕ) (ls : List (List ℕ)) (e : Why) → told_by l ≡ Err e → events ≡ events ++ events_in (l ∷ ls)
+events_stop events l ls e is = sym (append-nil events) ∙ ap (λ (x : List Event). events ++ x) (sym (events-step l ls (Err e) is))
+
+pub events_end : (events : List Event) (rest : List ℕ) → whole_lines_of rest ≡ [] → events ≡ events ++ events_in (whole_lines_of rest)
+events_end events rest is = sym (append-nil events) ∙ ap (λ (ls : List (List ℕ)). events ++ events_in ls) (sym is)
+
+-- ---- the events of a trace
+
+-- a row has as many counts as there may be cores
+abbrev IsFew : TraceRow → Type 0
+IsFew (Counted counts) = (1 ≤ length counts) × (length counts ≤ 8)
+IsFew (Headed n e tick) = Unit {0}
+IsFew (Shown l) = Unit {0}
+IsFew (Ended halt tick) = Unit {0}
+
+abbrev AreFew : List TraceRow → Type 0
+AreFew [] = Unit {0}
+AreFew (r ∷ rs) = IsFew r × AreFew rs
+
+few-kept : (r : TraceRow) → IsFew r → with_cores r ≡ Ok r
+few-kept (Counted counts) h = pass (leb 1 (length counts) && leb (length counts) 8) Why.Words (Ok (Counted counts)) (and_from _ _ (le-leb 1 (length counts) h.0) (le-leb (length counts) 8 h.1))
+few-kept (Headed n e tick) h = refl
+few-kept (Shown l) h = refl
+few-kept (Ended halt tick) h = refl
+
+row-told : (r : TraceRow) → IsWritten r → IsFew r → told_by (row_text r) ≡ Ok (event_of_row r)
+row-told r h few =
+    ap (result_map event_of_row) (
+      pass (list_all is_printable (row_text r)) Why.Byte (row_said (row_text r) >>= with_cores) (row_printable r h)
+      ∙ ap (λ (x : Result TraceRow Why). x >>= with_cores) (row-again r h)
+      ∙ few-kept r few)
+
+-- the events of rows
+abbrev row_events : List TraceRow → List Event
+row_events [] = []
+row_events (r ∷ rs) = events_from (Ok (event_of_row r)) (row_events rs)
+
+rows-told : (rs : List TraceRow) → AreWritten rs → AreFew rs → events_in (map row_text rs) ≡ row_events rs
+rows-told [] h few = refl
+rows-told (r ∷ rs) h few =
+    ap (λ (x : Result (Option Event) Why). events_from x (events_in (map row_text rs))) (row-told r h.0 few.0)
+    ∙ ap (events_from (Ok (event_of_row r))) (rows-told rs h.1 few.1)
+
+shown-events : (ls : List Line) (rs : List TraceRow) → row_events (map (λ (l : Line). Shown l) ls ++ rs) ≡ row_events rs
+shown-events [] rs = refl
+shown-events (l ∷ ls) rs = shown-events ls rs
+
+entries-events : (n : ℕ) (es : List Entry) (rs : List TraceRow) → row_events (entries_rows n es ++ rs) ≡ events_of es ++ row_events rs
+entries-events n [] rs = refl
+entries-events n (e ∷ es) rs =
+    ap row_events (append_assoc (entry_rows n e) (entries_rows (n + 1) es) rs)
+    ∙ ap (λ (x : List Event). e.event ∷ x) (shown-events e.lines (entries_rows (n + 1) es ++ rs) ∙ entries-events (n + 1) es rs)
+
+end-events : (end : Option End) → row_events (end_rows end) ≡ []
+end-events None = refl
+end-events (Some e) = refl
+
+plain-events : (n : ℕ) (es : List Entry) (end : Option End) → row_events (entries_rows n es ++ end_rows end) ≡ events_of es
+plain-events n es end = entries-events n es (end_rows end) ∙ ap (λ (x : List Event). events_of es ++ x) (end-events end) ∙ append-nil (events_of es)
+
+events-append : (es fs : List Entry) → events_of (es ++ fs) ≡ events_of es ++ events_of fs
+events-append [] fs = refl
+events-append (e ∷ es) fs = ap (λ (x : List Event). e.event ∷ x) (events-append es fs)
+
+trace-events : (journal : List Entry) (cut : Option Cut) (end : Option End) → row_events (trace_rows journal cut end) ≡ events_of journal
+trace-events journal None end = plain-events 1 journal end
+trace-events journal (Some cut) end =
+    let front = take cut.at journal in
+    let behind = entries_rows (cut.at + 1) (drop cut.at journal) in
+    ap row_events (append_assoc (entries_rows 1 front) (Counted cut.counts.items ∷ behind) (end_rows end))
+    ∙ entries-events 1 front (Counted cut.counts.items ∷ behind ++ end_rows end)
+    ∙ ap (λ (x : List Event). events_of front ++ x) (plain-events (cut.at + 1) (drop cut.at journal) end)
+    ∙ sym (events-append front (drop cut.at journal))
+    ∙ ap events_of (take-append-drop cut.at journal)
+
+few-append : (rs qs : List TraceRow) → AreFew rs → AreFew qs → AreFew (rs ++ qs)
+few-append [] qs h g = g
+few-append (r ∷ rs) qs h g = (h.0, few-append rs qs h.1 g)
+
+few-lines : (ls : List Line) → AreFew (map (λ (l : Line). Shown l) ls)
+few-lines [] = tt
+few-lines (l ∷ ls) = (tt, few-lines ls)
+
+few-entries : (n : ℕ) (es : List Entry) → AreFew (entries_rows n es)
+few-entries n [] = tt
+few-entries n (e ∷ es) = few-append (entry_rows n e) (entries_rows (n + 1) es) (tt, few-lines e.lines) (few-entries (n + 1) es)
+
+few-end : (end : Option End) → AreFew (end_rows end)
+few-end None = tt
+few-end (Some e) = (tt, tt)
+
+few-body : (journal : List Entry) (cut : Option Cut) → HasCores cut → AreFew (body_rows journal cut)
+few-body journal None h = few-entries 1 journal
+few-body journal (Some cut) h = few-append (entries_rows 1 (take cut.at journal)) (Counted cut.counts.items ∷ entries_rows (cut.at + 1) (drop cut.at journal)) (few-entries 1 (take cut.at journal)) (h, few-entries (cut.at + 1) (drop cut.at journal))
+
+-- the events that a trace's text tells are those of its entries
+pub events-told : (journal : List Entry) (cut : Option Cut) (end : Option End) → IsTrace journal cut end → HasCores cut → events_told (trace_text journal cut end) ≡ events_of journal
+events-told journal cut end h few =
+    let rows = trace_rows journal cut end in
+    let written = written-trace journal cut end h in
+    ap (λ (t : List ℕ). events_in (whole_lines_of t)) (sym (trace-text journal cut end))
+    ∙ ap events_in (lines-rows rows written)
+    ∙ rows-told rows written (few-append (body_rows journal cut) (end_rows end) (few-body journal cut few) (few-end end))
+    ∙ trace-events journal cut end

@@ -1,5 +1,5 @@
 -- The board that was read is valid: its lines may stand in their canonical order.
-use Rattle.std.proofs.Common.{◌≡◌, ℕ, ◌+◌, ◌^◌, ◌<◌, ◌≤◌, Bool, true, false, not, ◌&&◌, ◌||◌, eqb, leb, ltb, Option, Some, None, List, [], ◌∷◌, ◌++◌, map, refl, sym, ap, ◌∙◌, subst, arith, append_assoc, inl, inr, ◌⊎◌}
+use Rattle.std.proofs.Common.{◌≡◌, ℕ, ◌^◌, ◌<◌, ◌≤◌, Bool, true, false, not, ◌&&◌, ◌||◌, eqb, leb, ltb, Option, Some, None, List, [], ◌∷◌, ◌++◌, map, refl, sym, ap, ◌∙◌, subst, arith, append_assoc, inl, inr}
 use Rattle.std.specs.List.{flat_map}
 use Rattle.std.proofs.lemmas.List.Concat.{flat_map-cons}
 use Rattle.std.proofs.lemmas.List.{append-nil}
@@ -21,7 +21,7 @@ use Rattle.rt_plain.specs.PlainBoard.{PlainBoard}
 use Rattle.rt_plain.specs.Splits.{lines_of}
 use Rattle.rt_plain.specs.Tails.{limit_top, FitsSchedule}
 use Rattle.rt_plain.specs.LineTable.{row, kind_of, FitsLine}
-use Rattle.rt_plain.specs.BoardText.{SoFar, start, default_board, scripted, unscripted, with_limit, added, after, is_out_of_order, is_passed_limit, is_twice, is_full, is_schedule_beyond, is_astray, is_head, Stands, AreLines, IsBoard}
+use Rattle.rt_plain.specs.BoardText.{SoFar, start, default_board, scripted, unscripted, added, after, is_out_of_order, is_passed_limit, is_twice, is_full, is_schedule_beyond, is_astray, is_head, Stands, AreLines, IsBoard}
 use Rattle.rt_plain.specs.Canon.{line_of_thread, thread_lines, shell_lines, setting_lines, limit_lines, object_lines, board_lines, canonical_text, IsValid}
 use Rattle.rt_plain.proofs.CanonLemmas.{AllStand, after_all, after-append, valid_where_all_stand}
 use Rattle.rt_plain.proofs.BoardLemmas.{scripted_last}

@@ -1,5 +1,5 @@
 -- The table of lines, and what each says.
-use Rattle.std.specs.Prelude.{ℕ, ◌+◌, ◌-◌, Bool, true, false, List, [], ◌∷◌, ◌++◌, Option, Some, None, Result, Ok, codes, bytes_eq, if◌then◌else◌}
+use Rattle.std.specs.Prelude.{ℕ, ◌-◌, Bool, true, false, List, [], ◌∷◌, ◌++◌, Option, Result, codes, bytes_eq, if◌then◌else◌}
 use Rattle.std.specs.Option.{option_map}
 use Rattle.std.specs.List.{find}
 use Rattle.rt_plain.specs.declared.kind.Kind.{Kind}
@@ -10,7 +10,7 @@ use Rattle.rt_plain.specs.declared.why.Why.{Why}
 use Rattle.rt_plain.specs.Words.{words}
 use Rattle.rt_plain.specs.Fields.{Field, Number, Named, Quoted, Ordered, Moded, Started, Armed, OnOff, Powered, Indicated, Core, Levels, Repeated, result_map}
 use Rattle.rt_plain.specs.FieldLists.{Values, spelled_all, Fit, values_in}
-use Rattle.rt_plain.specs.StatementTable.{statement_row, StatementValues, statement_made, statement_kind, statement_values, statement_in, statement_named}
+use Rattle.rt_plain.specs.StatementTable.{statement_row, statement_made, statement_kind, statement_values, statement_in, statement_named}
 use Rattle.rt_plain.specs.declared.kind.Tail.{Tail}
 use Rattle.rt_plain.specs.declared.kind.Tail.TheVariants.{Ends, SetsLimit, SetsSchedule, MakesCall}
 use Rattle.rt_plain.specs.Tails.{TailValue, tail_words, TailFits, tail_in}

@@ -1,5 +1,5 @@
 -- The table of statements, and what each says.
-use Rattle.std.specs.Prelude.{ℕ, ◌-◌, Bool, List, [], ◌∷◌, length, Option, Result, Ok, codes, bytes_eq}
+use Rattle.std.specs.Prelude.{ℕ, ◌-◌, List, [], ◌∷◌, length, Option, Result, codes, bytes_eq}
 use Rattle.std.specs.List.{find}
 use Rattle.rt_plain.specs.declared.kind.StatementKind.{StatementKind}
 use Rattle.rt_plain.specs.declared.stmt.Stmt.{Stmt}

@@ -1,5 +1,5 @@
 -- A trace as rows, each the text of one line, and what a line says by itself.
-use Rattle.std.specs.Prelude.{◌≡◌, ℕ, ◌+◌, ◌^◌, ◌≤◌, ◌<◌, Bool, not, ◌&&◌, ◌==◌, nat_le, List, [], ◌∷◌, ◌++◌, length, map, flat_map, take, drop, Option, Some, None, Result, Ok, Err, decimal, codes, bytes_eq, All, if◌then◌else◌}
+use Rattle.std.specs.Prelude.{ℕ, ◌+◌, ◌^◌, ◌≤◌, ◌<◌, Bool, true, false, not, ◌&&◌, ◌==◌, nat_le, List, [], ◌∷◌, ◌++◌, length, map, flat_map, take, drop, Option, Some, None, Result, Ok, Err, decimal, codes, bytes_eq, All, if◌then◌else◌}
 use Rattle.std.specs.List.{find, list_all}
 use Rattle.rt_base.specs.declared.codes.Event.{Event}
 use Rattle.rt_base.specs.declared.codes.Halt.{Halt}
@@ -209,6 +209,11 @@ abbrev pub CanCount : Option Cut → Type 0
 CanCount None = Unit {0}
 CanCount (Some cut) = All (λ n. n < 2 ^ 32) cut.counts.items
 
+-- the cut has a number for each of 1 to 8 cores
+abbrev pub HasCores : Option Cut → Type 0
+HasCores None = Unit {0}
+HasCores (Some cut) = (1 ≤ length cut.counts.items) × (length cut.counts.items ≤ 8)
+
 -- the tick of an end has 32 bits
 abbrev pub CanEnd : Option End → Type 0
 CanEnd None = Unit {0}
@@ -251,16 +256,15 @@ all_halts =
 abbrev pub halt_in : List ℕ → Result Halt Why
 halt_in word = listed_in Why.Choice all_halts word
 
--- a header, by its three words
-abbrev pub header_of : List ℕ → List ℕ → List ℕ → Result (ℕ × (Event × ℕ)) Why
-header_of number what moment =
-    if bytes_eq what (codes "tick")
-    then paired (number_said number) (paired (Ok Event.Tick) (number_said moment))
-    else paired (number_said number) (paired (result_map (λ core. Event.Step core) (number_behind 99 255 what)) (number_behind 64 4294967295 moment))
+-- the event and the tick of a header, by its last two words
+abbrev pub moment_of : List ℕ → List ℕ → Result (Event × ℕ) Why
+moment_of what moment =
+    if bytes_eq what (codes "tick") then paired (Ok Event.Tick) (number_said moment)
+    else paired (result_map (λ core. Event.Step core) (number_behind 99 255 what)) (number_behind 64 4294967295 moment)
 
 -- a header
 abbrev pub header_in : List (List ℕ) → Result (ℕ × (Event × ℕ)) Why
-header_in ws = refused (not (length ws == 3)) Why.Words (header_of (word_at ws 0) (word_at ws 1) (word_at ws 2))
+header_in ws = refused (not (length ws == 3)) Why.Words (paired (number_said (word_at ws 0)) (moment_of (word_at ws 1) (word_at ws 2)))
 
 -- an end line
 abbrev pub end_in : List (List ℕ) → Result (Halt × ℕ) Why
@@ -278,11 +282,14 @@ outer_said ws =
     else if bytes_eq (first_of ws) (codes "end") then result_map (λ p. Ended p.0 p.1) (end_in ws)
     else result_map (λ p. Headed p.0 p.1.0 p.1.1) (header_in ws)
 
+-- the row that words say, behind an indent or not
+abbrev pub row_of_words : Bool → List (List ℕ) → Result TraceRow Why
+row_of_words true ws = result_map (λ line. Shown line) (shown_in ws (trace_named (first_of ws)))
+row_of_words false ws = outer_said ws
+
 -- the row that a line of printable bytes is, whatever the number of its counts
 abbrev pub row_said : List ℕ → Result TraceRow Why
-row_said bytes =
-    if is_indented bytes then result_map (λ line. Shown line) (shown_in (words_behind bytes) (trace_named (first_of (words_behind bytes))))
-    else outer_said (words_behind bytes)
+row_said bytes = row_of_words (is_indented bytes) (words_behind bytes)
 
 -- a `cut` line has a number for each of 1 to 8 cores
 abbrev pub with_cores : TraceRow → Result TraceRow Why
@@ -313,6 +320,14 @@ event_of_row (Headed number event tick) = Some event
 event_of_row (Shown line) = None
 event_of_row (Counted counts) = None
 event_of_row (Ended halt tick) = None
+
+-- what a row tells, if it has as many counts as there may be cores
+abbrev pub told_of_row : Result TraceRow Why → Result (Option Event) Why
+told_of_row r = result_map event_of_row (r >>= with_cores)
+
+-- whether numbers were read, whichever they are
+abbrev pub are_counts : Result (List ℕ) Why → Result (Unit {0}) Why
+are_counts r = result_map (λ ns. tt) r
 
 -- the event of a line's header before those of the lines behind it; none from a line on that has no form
 abbrev pub events_from : Result (Option Event) Why → List Event → List Event

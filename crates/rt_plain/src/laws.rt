@@ -10,7 +10,7 @@ ghost use Rattle.rt_plain.specs.PlainBoard.{PlainBoard};
 ghost use Rattle.rt_plain.specs.BoardText.{IsBoard, first_bad};
 ghost use Rattle.rt_plain.specs.Canon.{IsValid, canonical_text};
 ghost use Rattle.rt_plain.specs.Texts.{End, trace_text};
-ghost use Rattle.rt_plain.specs.TraceRows.{IsTrace, text_of_rows, trace_rows, row_text, row_said, whole_lines_of};
+ghost use Rattle.rt_plain.specs.TraceRows.{IsTrace, HasCores, events_told, text_of_rows, trace_rows, row_text, row_said, whole_lines_of};
 ghost use Rattle.rt_plain.specs.Replays.{IsAgreement};
 ghost use Rattle.rt_plain.specs.Agreement.{lines_agreeing};
 ghost use Rattle.rt_plain.specs.State.{State, Retry, Alarm, ArmedRow};
@@ -163,6 +163,13 @@ pub fn rows_are_read_back()
         whole_lines_of (trace_text journal cut end) ≡ map row_text (trace_rows journal cut end) }
     ensures rows { (journal : List Entry) (cut : Option Cut) (end : Option End) →
         IsTrace journal cut end → All (λ row. row_said (row_text row) ≡ Ok row) (trace_rows journal cut end) }
+{}
+
+/// The events that a trace's text tells are those of its entries.
+pub fn texts_tell_their_events()
+    ensures { (journal : List Entry) (cut : Option Cut) (end : Option End) →
+        IsTrace journal cut end → HasCores cut →
+        events_told (trace_text journal cut end) ≡ events_of journal }
 {}
 
 /// One pass over the lines of a text, which makes each entry from its header's event and compares lines, finds how

@@ -5,15 +5,19 @@ pub mod board;
 pub mod board_line;
 mod copy;
 pub mod entry;
+pub mod fields;
 pub mod kind;
 pub mod laws;
 pub mod line;
 pub mod lines;
+pub mod numbers;
 pub mod quote;
+pub mod quotes;
 pub mod row;
 pub mod shown;
 pub mod stmt;
 pub mod why;
+pub mod words;
 
 pub use board::{
     Arrival, Board, DeviceDef, EventDef, Limits, MailboxDef, MutexDef, QueueDef, Schedule, SemDef,

@@ -1,4 +1,4 @@
-use Rattle.std.proofs.Common.{arith, sym}
+use Rattle.std.proofs.Common.{arith}
 use Rattle.std.proofs.lemmas.Option.{slice_get_read}
 use Rattle.journal.proofs.HeaderLemmas.{entry-at, length-entries_of}
 use Rattle.journal.proofs.entries.Journal.entry.Goals as goal

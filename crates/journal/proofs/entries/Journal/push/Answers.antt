@@ -1,9 +1,8 @@
-use Rattle.std.proofs.Common.{◌≡◌, ◌+◌, ◌≤◌, length, arith, ap, ◌∙◌}
+use Rattle.std.proofs.Common.{length, arith, ap}
 use Rattle.std.proofs.lemmas.List.{length-append}
 use Rattle.std.proofs.lemmas.List.Elements.{All-push, All-append}
 use Rattle.rt_plain.specs.TraceRows.{CanShow}
 use Rattle.journal.specs.Headers.{CanHead}
-use Rattle.journal.specs.declared.header.Header.{Header}
 use Rattle.journal.proofs.HeaderLemmas.{entries_of-push, StandFrom-push, lines_in-push}
 use Rattle.journal.proofs.entries.Journal.push.Goals as goal
 

@@ -1,4 +1,0 @@
-use Rattle.board_text.proofs.fields.all4.Goals as goal
-
-pub returns : goal.returns
-returns g c = rw (c.both-4.ensures, c.both-3.ensures, c.both-2.ensures, c.both.ensures)

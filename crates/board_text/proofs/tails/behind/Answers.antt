@@ -1,5 +1,0 @@
-use Rattle.rt_plain.proofs.SplitLemmas.{nows_rest}
-use Rattle.board_text.proofs.tails.behind.Goals as goal
-
-pub returns-then-first-words : goal.returns-then-first-words
-returns-then-first-words c = nows_rest c.args.words.now c.args.first

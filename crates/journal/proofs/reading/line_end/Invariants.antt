@@ -1,0 +1,6 @@
+use Rattle.std.proofs.Common.{take}
+use Rattle.rt_plain.proofs.SplitLemmas.{IsUnbroken}
+use Rattle.journal.proofs.reading.line_end.Given as goal
+
+abbrev pub invariant-loop-i : goal.invariant-loop-i
+invariant-loop-i l = IsUnbroken (take l.i l.rest)
