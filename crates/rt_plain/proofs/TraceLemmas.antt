@@ -583,9 +583,9 @@ few-kept (Ended halt tick) h = refl
 row-told : (r : TraceRow) → IsWritten r → IsFew r → told_by (row_text r) ≡ Ok (event_of_row r)
 row-told r h few =
     ap (result_map event_of_row) (
-      pass (list_all is_printable (row_text r)) Why.Byte (row_said (row_text r) >>= with_cores) (row_printable r h)
-      ∙ ap (λ (x : Result TraceRow Why). x >>= with_cores) (row-again r h)
-      ∙ few-kept r few)
+    pass (list_all is_printable (row_text r)) Why.Byte (row_said (row_text r) >>= with_cores) (row_printable r h)
+    ∙ ap (λ (x : Result TraceRow Why). x >>= with_cores) (row-again r h)
+    ∙ few-kept r few)
 
 -- the events of rows
 abbrev row_events : List TraceRow → List Event
