@@ -1,0 +1,227 @@
+-- What the kernel's invariant says of its records.
+use Rattle.std.proofs.Common.{◌≡◌, ◌≢◌, ◌⊎◌, inl, inr, ◌+◌, ◌≤◌, ◌<◌, ◌&&◌, ◌||◌, ℕ, zero, suc, List, [], ◌∷◌, ◌++◌, Option, Some, None, Bool, true, false, length, eqb, refl, sym, ap, ◌∙◌, subst, arith, eq-eqb, filter, slice_index, slice_index_or, not, IsTrue, cond}
+use Rattle.std.specs.Prelude.{if◌then◌else◌, ◌==◌, is_some, nat_lt, All}
+use Rattle.std.specs.List.{AllByRecursion, list_any, list_all, find, range_with_len}
+use Rattle.std.specs.Option.{option_map}
+use Rattle.std.proofs.lemmas.List.FromFn.{length-range_with_len}
+use Rattle.rt_plain.specs.declared.board.ThreadDef.{ThreadDef}
+use Rattle.rt_plain.specs.PlainBoard.{PlainBoard}
+use Rattle.rt_plain.specs.State.{State, Thread, thread_at, running_on, Alarm, OfThread, OfTimer, ArmedRow, is_closed, is_nest_of, no_thread}
+use Rattle.rt_plain.specs.Pick.{pick}
+use Rattle.rt_plain.specs.Statements.{script_of, statement_effect}
+use Rattle.rt_plain.specs.Sound.{is_active, is_waiting, IsProper}
+use Rattle.rt_plain.specs.Runs.{thread_count}
+use Rattle.rt_plain.specs.Effects.{is_alarm, without_alarm}
+use Rattle.rt_plain.specs.Steps.{without_mark, is_preemptible, takes_from}
+use Rattle.rt_plain.specs.Due.{due, due_rows_at, by_number, put_by_number, timeout_effect, timeout_code}
+use Rattle.rt_plain.specs.Ticks.{next_tick_state, with_slice_used, thread_after_slice}
+use Rattle.rt_plain.specs.Owners.{close_effect}
+use Rattle.rt_plain.specs.Calls.{settled_effect}
+use Rattle.rt_plain.proofs.TallyLemmas.{one_if, tally, tally-length, all-count, all-weaker, all-passing, tally-filter}
+use Rattle.rt_plain.proofs.Invariant.{Frame, Kept, stage_at, places, IsRowKept, IsWaited, fine-at, thread-kept, is-there, active-open, waiting-open, placed-active, running-active, run-kept, preempt-kept, without_alarm-kept}
+use Rattle.rt_plain.proofs.TickLemmas.{IsDueRow, DropsOne, due-rows, less-fits, filter-length, slice-fine, fold-kept}
+use Rattle.rt_plain.proofs.TickCosts.{all-owned, armed-few}
+use Rattle.rt_plain.proofs.StepLemmas.{picked-ready}
+use Rattle.rt_plain.proofs.StatementLemmas.{statement-kept, settled-kept}
+use Rattle.rt_plain.proofs.WakeLemmas.{wake-kept, close-kept}
+use Rattle.rt_kernel.specs.Due.{first_alarm}
+use Rattle.rt_kernel.specs.Inside.{frame_of}
+use Rattle.rt_kernel.specs.Switched.{switched, switched_by, effect_or, preempt_effect, AreNumbers}
+
+-- what holds under any frame holds of now
+pub loosened : (f : Frame) (s : State) → Kept f s → s.tick ≤ f.low → Kept (frame_of f.board s) s
+loosened f s kept low = record {
+  tick_is = refl;
+  live = λ some on. omega arith;
+  ends = kept.ends;
+  count = kept.count;
+  cores = kept.cores;
+  placed = kept.placed;
+  rows = all-weaker (IsRowKept f.low s.threads) (IsRowKept s.tick s.threads) s.armed (λ row is. (omega (arith, low, is.0), is.1)) kept.rows;
+  due_few = omega arith;
+  single = kept.single;
+  owned = kept.owned;
+  fine = kept.fine;
+  nest_runs = kept.nest_runs;
+  timers_fine = kept.timers_fine;
+}
+
+-- the same for an action that was made under the frame of a state, whose tick stays
+pub still-now : (b : PlainBoard) (s new : State) → Kept (frame_of b s) new → Kept (frame_of b new) new
+still-now b s new kept = loosened (frame_of b s) new kept (omega (arith, kept.tick_is))
+
+-- the ready threads are there
+ready-there : (f : Frame) (s : State) → Kept f s → AllByRecursion (λ t. t < length s.threads) s.ready
+ready-there f s kept = all-weaker (λ t. 1 ≤ tally (λ u. eqb u t) s.ready) (λ t. t < length s.threads) s.ready (λ t some. is-there s.threads t (active-open (thread_at s t).stage (placed-active f s t kept (omega (arith, some))))) (all-count s.ready)
+
+index-all : (P : ℕ → Type 0) (xs : List ℕ) (i : ℕ) → AllByRecursion P xs → i < length xs → P (slice_index xs i)
+index-all P [] i all lt = absurd (omega (arith, lt))
+index-all P (x ∷ xs) zero all lt = all.0
+index-all P (x ∷ xs) (suc i) all lt = index-all P xs i all.1 (omega (arith, lt))
+
+pub ready-numbers : (f : Frame) (s : State) → Kept f s → AreNumbers s.threads s.ready
+ready-numbers f s kept i lt = index-all (λ t. t < length s.threads) s.ready i (ready-there f s kept) lt
+
+one-most : (c : Bool) → one_if c ≤ 1
+one-most true = omega arith
+one-most false = omega arith
+
+eqb-turn : (m n : ℕ) → eqb m n ≡ eqb n m
+eqb-turn m n = grind arith
+
+tally-turn : (t : ℕ) (xs : List ℕ) → tally (λ x. eqb t x) xs ≡ tally (λ x. eqb x t) xs
+tally-turn t [] = refl
+tally-turn t (x ∷ xs) = omega (arith, ap one_if (eqb-turn t x), tally-turn t xs)
+
+range-has : (a n x : ℕ) → a ≤ x → x < a + n → list_any (λ m. eqb m x) (range_with_len a n) ≡ true
+range-has a zero x from to = absurd (omega (arith, from, to))
+range-has a (suc n) x from to = by_test (eqb a x) refl (range-has (a + 1) n x) where
+  by_test : (c : Bool) → eqb a x ≡ c → (a + 1 ≤ x → x < a + 1 + n → list_any (λ m. eqb m x) (range_with_len (a + 1) n) ≡ true) → c || list_any (λ m. eqb m x) (range_with_len (a + 1) n) ≡ true
+  by_test true is more = refl
+  by_test false is more = more (grind (arith, from, is)) (omega (arith, to))
+
+-- a thread stands once at most in the ready list
+pub ready-once : (f : Frame) (s : State) → Kept f s → (u : ℕ) → length (filter (λ v. v == u) s.ready) ≤ 1
+ready-once f s kept u = omega (arith, filter-length (λ v. v == u) s.ready, kept.placed u, one-most (is_active (stage_at s.threads u)))
+
+-- there are no more ready threads than threads
+pub ready-few : (f : Frame) (s : State) → Kept f s → length s.ready ≤ length s.threads
+ready-few f s kept = omega (
+  arith,
+  all-owned (λ m x. eqb m x) (range_with_len 0 (length s.threads)) s.ready
+      (all-weaker (λ t. t < length s.threads) (λ t. list_any (λ m. eqb m t) (range_with_len 0 (length s.threads)) ≡ true) s.ready (λ t lt. range-has 0 (length s.threads) t (omega arith) (omega (arith, lt))) (ready-there f s kept))
+      (λ u. omega (arith, tally-turn u s.ready, kept.placed u, one-most (is_active (stage_at s.threads u)))),
+  length-range_with_len 0 (length s.threads),
+)
+
+-- a running thread is there, and stands at a statement or behind its script
+pub running-there : (f : Frame) (s : State) (core t : ℕ) → Kept f s → running_on s core ≡ Some t → (t < length s.threads) × ((thread_at s t).next ≤ length (script_of f.board (thread_at s t).name) + 2)
+running-there f s core t kept runs =
+    let open_stage : is_closed (thread_at s t).stage ≡ false = active-open (thread_at s t).stage (running-active f s core t kept runs) in
+    (is-there s.threads t open_stage, (fine-at f s t kept).2 open_stage)
+
+-- a waiting thread is there
+pub waiting-there : (s : State) (t : ℕ) → is_waiting (thread_at s t).stage ≡ true → t < length s.threads
+waiting-there s t waits = is-there s.threads t (waiting-open (thread_at s t).stage waits)
+
+-- a core takes a thread, or doesn't
+pub switched-kept : (b : PlainBoard) (s : State) (core : ℕ) → core < b.cores → Kept (frame_of b s) s → Kept (frame_of b (effect_or s (switched s core)).state) (effect_or s (switched s core)).state
+switched-kept b s core there kept = still-now b s (effect_or s (switched s core)).state (by_case (running_on s core) (pick s core) refl refl) where
+  by_test : (r p : ℕ) → running_on s core ≡ Some r → pick s core ≡ Some p → (c : Bool) → (is_preemptible s core r && takes_from s p r) ≡ c → Kept (frame_of b s) (effect_or s (if c then Some (preempt_effect s core r p) else None)).state
+  by_test r p runs picked false is = kept
+  by_test r p runs picked true is = preempt-kept (frame_of b s) s core r p runs (off-nest (is_nest_of core s.nest) (nat_lt 0 (thread_at s r).locks) (takes_from s p r) is) (picked-ready s core p picked) kept where
+    off-nest : (n l t : Bool) → (not l && not n) && t ≡ true → n ≡ false
+    off-nest false l t e = refl
+    off-nest true true t e = absurd cc
+    off-nest true false t e = absurd cc
+
+  by_case : (o p : Option ℕ) → running_on s core ≡ o → pick s core ≡ p → Kept (frame_of b s) (effect_or s (switched_by s core o p)).state
+  by_case None None runs picked = kept
+  by_case None (Some p) runs picked = run-kept (frame_of b s) s core p there runs (picked-ready s core p picked) kept
+  by_case (Some r) None runs picked = kept
+  by_case (Some r) (Some p) runs picked = by_test r p runs picked (is_preemptible s core r && takes_from s p r) refl
+
+pub unmarked-kept : (b : PlainBoard) (s : State) (t : ℕ) (c : Bool) → Kept (frame_of b s) s → Kept (frame_of b (if c then without_mark s t else s)) (if c then without_mark s t else s)
+unmarked-kept b s t false kept = kept
+unmarked-kept b s t true kept = still-now b s (without_mark s t) (thread-kept (frame_of b s) s t (record (thread_at s t) { marked = false }) refl (fine-at (frame_of b s) s t kept) kept)
+
+pub stated-kept : (b : PlainBoard) (s : State) (t core : ℕ) → IsProper b → running_on s core ≡ Some t → Kept (frame_of b s) s → Kept (frame_of b (statement_effect b t core s).state) (statement_effect b t core s).state
+stated-kept b s t core proper runs kept = still-now b s (statement_effect b t core s).state (statement-kept (frame_of b s) s t core proper runs kept)
+
+pub taken-kept : (b : PlainBoard) (s : State) (alarm : Alarm) → Kept (frame_of b s) s → Kept (frame_of b (without_alarm s alarm)) (without_alarm s alarm)
+taken-kept b s alarm kept = still-now b s (without_alarm s alarm) (without_alarm-kept (frame_of b s) s alarm kept)
+
+pub fired-kept : (b : PlainBoard) (s : State) (t : ℕ) → is_waiting (thread_at s t).stage ≡ true → Kept (frame_of b s) s → Kept (frame_of b (settled_effect b s (timeout_effect t s)).state) (settled_effect b s (timeout_effect t s)).state
+fired-kept b s t waits kept = still-now b s (settled_effect b s (timeout_effect t s)).state (settled-kept (frame_of b s) s (timeout_effect t s) (wake-kept (frame_of b s) s (timeout_code (thread_at s t).stage) t waits kept))
+
+pub closed-kept : (b : PlainBoard) (s : State) (t : ℕ) → Kept (frame_of b s) s → Kept (frame_of b (settled_effect b s (close_effect t s)).state) (settled_effect b s (close_effect t s)).state
+closed-kept b s t kept = still-now b s (settled_effect b s (close_effect t s)).state (settled-kept (frame_of b s) s (close_effect t s) (close-kept (frame_of b s) s t kept))
+
+-- nothing is due
+put-some : {A : Type 0} (row : ArmedRow A) (rows : List (ArmedRow A)) → put_by_number row rows ≡ [] → ⊥
+put-some row [] e = cc
+put-some row (r ∷ rs) e = by_test (nat_lt row.number r.number) e where
+  by_test : (c : Bool) → (if c then row ∷ r ∷ rs else r ∷ put_by_number row rs) ≡ [] → ⊥
+  by_test true e = cc
+  by_test false e = cc
+
+none-due : (tick : ℕ) (rows : List (ArmedRow Alarm)) → due_rows_at tick rows ≡ [] → AllByRecursion (λ (row : ArmedRow Alarm). row.due ≢ tick) rows
+none-due tick [] none = tt
+none-due tick (row ∷ rows) none = by_test (row.due == tick) refl none (none-due tick rows) where
+  by_test : (c : Bool) → (row.due == tick) ≡ c → by_number (cond c (row ∷ filter (λ (r : ArmedRow Alarm). r.due == tick) rows) (filter (λ (r : ArmedRow Alarm). r.due == tick) rows)) ≡ [] → (due_rows_at tick rows ≡ [] → AllByRecursion (λ (r : ArmedRow Alarm). r.due ≢ tick) rows) → AllByRecursion (λ (r : ArmedRow Alarm). r.due ≢ tick) (row ∷ rows)
+  by_test true is e rest = absurd (put-some row (due_rows_at tick rows) e)
+  by_test false is e rest = ((λ same. apart is (eq-eqb row.due tick same)), rest e) where
+    apart : eqb row.due tick ≡ false → eqb row.due tick ≡ true → ⊥
+    apart no_case yes_case = clash (sym no_case ∙ yes_case) where
+      clash : false ≡ true → ⊥
+      clash e = cc
+
+both : {A : Type 0} (P Q R : A → Type 0) → ((x : A) → P x → Q x → R x) → (xs : List A) → AllByRecursion P xs → AllByRecursion Q xs → AllByRecursion R xs
+both P Q R f [] p q = tt
+both P Q R f (x ∷ xs) p q = (f x p.0 q.0, both P Q R f xs p.1 q.1)
+
+-- the tick rises where nothing is due any more
+pub begun-kept : (b : PlainBoard) (s : State) → due s ≡ [] → Kept (frame_of b s) s → Kept (frame_of b (next_tick_state s)) (next_tick_state s)
+begun-kept b s none kept = loosened next (next_tick_state s) after (omega (arith, after.tick_is)) where
+  next : Frame
+  next = record { board = b; now = s.tick + 1; low = s.tick + 1; few = tally (λ (row : ArmedRow Alarm). eqb row.due (s.tick + 1)) s.armed; latest = s.tick + 1; fits = less-fits (s.tick + 1) }
+
+  risen : Kept next (record s { tick = s.tick + 1 })
+  risen = record {
+    tick_is = refl;
+    live = λ some on. omega arith;
+    ends = kept.ends;
+    count = kept.count;
+    cores = kept.cores;
+    placed = kept.placed;
+    rows = both (IsRowKept s.tick s.threads) (λ (row : ArmedRow Alarm). row.due ≢ s.tick) (IsRowKept (s.tick + 1) s.threads) (λ row is later. (omega (arith, is.0, later), is.1)) s.armed kept.rows (none-due s.tick s.armed none);
+    due_few = omega arith;
+    single = kept.single;
+    owned = kept.owned;
+    fine = kept.fine;
+    nest_runs = kept.nest_runs;
+    timers_fine = kept.timers_fine;
+  }
+
+  used : (u : State) (r : Option ℕ) → Kept next u → Kept next (with_slice_used u r)
+  used u None k = k
+  used u (Some t) k = thread-kept next u t (thread_after_slice (thread_at u t)) (slice-fine b (thread_at u t)).0 ((slice-fine b (thread_at u t)).1 (fine-at next u t k)) k
+
+  after : Kept next (next_tick_state s)
+  after = fold-kept next with_slice_used used s.running (record s { tick = s.tick + 1 }) risen
+
+-- how many rows are due
+number-length : {A : Type 0} (rows : List (ArmedRow A)) → length (by_number rows) ≡ length rows
+number-length [] = refl
+number-length (row ∷ rows) = put-length row (by_number rows) ∙ ap suc (number-length rows) where
+  put-length : {A : Type 0} (row : ArmedRow A) (rows : List (ArmedRow A)) → length (put_by_number row rows) ≡ suc (length rows)
+  put-length row [] = refl
+  put-length row (r ∷ rs) = by_test (nat_lt row.number r.number) (put-length row rs) where
+    by_test : (c : Bool) → length (put_by_number row rs) ≡ suc (length rs) → length (if c then row ∷ r ∷ rs else r ∷ put_by_number row rs) ≡ suc (suc (length rs))
+    by_test true same = refl
+    by_test false same = ap suc same
+
+due-tally : (tick : ℕ) (rows : List (ArmedRow Alarm)) → length (due_rows_at tick rows) ≡ tally (λ (row : ArmedRow Alarm). eqb row.due tick) rows
+due-tally tick rows = number-length (filter (λ (row : ArmedRow Alarm). eqb row.due tick) rows) ∙ filter-length (λ (row : ArmedRow Alarm). eqb row.due tick) rows
+
+-- dropping the rows of an alarm leaves no more due rows
+pub due-dropped : (s : State) (alarm : Alarm) → length (due (without_alarm s alarm)) ≤ length (due s)
+due-dropped s alarm = omega (arith, due-tally s.tick s.armed, due-tally s.tick (without_alarm s alarm).armed, tally-filter (λ (row : ArmedRow Alarm). eqb row.due s.tick) (λ (r : ArmedRow Alarm). not (is_alarm alarm r.alarm)) s.armed)
+
+-- no more rows are due than there are threads, where there are no timers
+pub due-few : (f : Frame) (s : State) → Kept f s → s.timers ≡ [] → length (due s) ≤ length s.threads
+due-few f s kept none = omega (arith, due-tally s.tick s.armed, tally-length (λ (row : ArmedRow Alarm). eqb row.due s.tick) s.armed, armed-few f s kept, ap length none)
+
+some-alarm : (a c : Alarm) → Some a ≡ Some c → a ≡ c
+some-alarm a c e = cc
+
+-- the first of the due rows is dropped with its alarm, and its thread waits
+pub first-due : (f : Frame) (s : State) (t : ℕ) → Kept f s → first_alarm (due s) ≡ Some (OfThread t) → (is_waiting (thread_at s t).stage ≡ true) × (length (due (without_alarm s (OfThread t))) < length (due s))
+first-due f s t kept first = by_rows (due s) refl (due-rows f s kept) first where
+  by_rows : (rows : List (ArmedRow Alarm)) → due s ≡ rows → AllByRecursion (IsDueRow f.now s.threads s.armed) rows → first_alarm rows ≡ Some (OfThread t) → (is_waiting (thread_at s t).stage ≡ true) × (length (due (without_alarm s (OfThread t))) < length (due s))
+  by_rows [] is all first = absurd cc
+  by_rows (row ∷ rows) is all first =
+      let same : row.alarm ≡ OfThread t = some-alarm row.alarm (OfThread t) first in
+      let drops : DropsOne f.now s.armed row = all.0.drops in
+      let dropped : tally (λ (r : ArmedRow Alarm). eqb r.due s.tick) (without_alarm s (OfThread t)).armed + 1 ≤ tally (λ (r : ArmedRow Alarm). eqb r.due s.tick) s.armed = subst (λ (a : Alarm). tally (λ (r : ArmedRow Alarm). eqb r.due s.tick) (without_alarm s a).armed + 1 ≤ tally (λ (r : ArmedRow Alarm). eqb r.due s.tick) s.armed) same (subst (λ n. tally (λ (r : ArmedRow Alarm). eqb r.due n) (without_alarm s row.alarm).armed + 1 ≤ tally (λ (r : ArmedRow Alarm). eqb r.due n) s.armed) (sym kept.tick_is) drops) in
+      (subst (IsWaited s.threads) same all.0.waits, omega (arith, due-tally s.tick s.armed, due-tally s.tick (without_alarm s (OfThread t)).armed, dropped))

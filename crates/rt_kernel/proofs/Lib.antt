@@ -1,0 +1,15 @@
+pub mod BuiltLemmas
+pub mod CurLemmas
+pub mod DueLemmas
+pub mod EndLemmas
+pub mod KeptLemmas
+pub mod ListLemmas
+pub mod PickLemmas
+pub mod OpenLemmas
+pub mod OwnLemmas
+pub mod PrioLemmas
+pub mod Quiet
+pub mod RowLemmas
+pub mod Settled
+pub mod StatementLemmas
+pub mod SwitchLemmas

@@ -1,0 +1,34 @@
+-- Calls of threads settle to what the code does.
+use Rattle.std.proofs.Common.{◌≡◌, ℕ, ◌+◌, Some, None, Bool, true, false, refl, sym, ap, ◌∙◌}
+use Rattle.rt_base.specs.declared.codes.Code.{Code}
+use Rattle.rt_plain.specs.declared.line.Line.{Line}
+use Rattle.rt_plain.specs.declared.stmt.Call.{Call}
+use Rattle.rt_plain.specs.PlainBoard.{PlainBoard}
+use Rattle.rt_plain.specs.State.{State, InCall, thread_at}
+use Rattle.rt_plain.specs.Effects.{Effect, name_of}
+use Rattle.rt_plain.specs.Outcome.{ByThread, First, Outcome}
+use Rattle.rt_plain.specs.Calls.{outcome_of, settled_effect}
+use Rattle.rt_plain.specs.Statements.{with_next}
+use Rattle.rt_kernel.specs.Built.{is_built_call}
+use Rattle.rt_kernel.specs.Called.{called}
+use Rattle.rt_kernel.specs.Own.{own_effect, begun, next_call}
+use Rattle.rt_kernel.proofs.CurLemmas.{IsFree}
+use Rattle.rt_kernel.proofs.Quiet.{IsQuietCall, call_settles, quiet-wait, quiet-yield, quiet-startup, quiet-suspend, quiet-resume, quiet-kill, quiet-sched_lock, quiet-sched_unlock}
+use Rattle.rt_kernel.proofs.PrioLemmas.{prio_settles}
+
+-- a quiet call settles to itself
+settles : (b : PlainBoard) (s : State) (t : ℕ) (call : Call) → IsFree s → IsQuietCall (begun s t) (outcome_of b call (begun s t) (ByThread t 0) First) → settled_effect b s (next_call b t call s) ≡ next_call b t call s
+settles b s t call free quiet = call_settles b s t ((thread_at s t).next + 1) (Line.Done (name_of (begun s t) t) (thread_at s t).next) (outcome_of b call (begun s t) (ByThread t 0) First) free quiet
+
+-- a call that is built settles to what the code does
+pub own_settles : (b : PlainBoard) (s : State) (t : ℕ) (call : Call) → is_built_call call ≡ true → IsFree s → settled_effect b s (next_call b t call s) ≡ own_effect b t (thread_at s t).next call (begun s t)
+own_settles b s t (Call.Delay ticks) built free = settles b s t (Call.Delay ticks) free (quiet-wait (begun s t) t 0 (InCall (Call.Delay ticks)) (Some ((begun s t).tick + ticks)) free)
+own_settles b s t Call.Yield built free = settles b s t Call.Yield free (quiet-yield (begun s t) t 0 free)
+own_settles b s t (Call.Startup name) built free = settles b s t (Call.Startup name) free (quiet-startup (begun s t) name free)
+own_settles b s t (Call.Suspend name) built free = settles b s t (Call.Suspend name) free (quiet-suspend (begun s t) name (ByThread t 0) free)
+own_settles b s t (Call.Resume name) built free = settles b s t (Call.Resume name) free (quiet-resume (begun s t) name free)
+own_settles b s t (Call.Kill name) built free = settles b s t (Call.Kill name) free (quiet-kill (begun s t) name free)
+own_settles b s t (Call.SetPrio name prio) built free = prio_settles b s t ((thread_at s t).next + 1) (thread_at s t).next name prio free
+own_settles b s t Call.SchedLock built free = settles b s t Call.SchedLock free (quiet-sched_lock (begun s t) t 0 free)
+own_settles b s t Call.SchedUnlock built free = settles b s t Call.SchedUnlock free (quiet-sched_unlock (begun s t) t 0 free)
+own_settles b s t _ built free = absurd cc

@@ -1,0 +1,62 @@
+-- A statement of a thread is what the code does.
+use Rattle.std.proofs.Common.{◌≡◌, ℕ, zero, suc, ◌+◌, ◌&&◌, List, [], ◌∷◌, Option, Some, None, Bool, true, false, refl, sym, ap, ◌∙◌, subst, slice_index_or, eqb, is_some}
+use Rattle.std.specs.Prelude.{if◌then◌else◌}
+use Rattle.rt_base.specs.declared.codes.Code.{Code}
+use Rattle.rt_plain.specs.declared.line.Line.{Line}
+use Rattle.rt_plain.specs.declared.stmt.Call.{Call}
+use Rattle.rt_plain.specs.declared.stmt.Stmt.{Stmt}
+use Rattle.rt_plain.specs.PlainBoard.{PlainBoard}
+use Rattle.rt_plain.specs.State.{State, Thread, Retry, no_thread, thread_at}
+use Rattle.rt_plain.specs.Effects.{Effect, name_of, and_then, line_effect}
+use Rattle.rt_plain.specs.Outcome.{ByThread, First}
+use Rattle.rt_plain.specs.Calls.{outcome_of, settled_effect}
+use Rattle.rt_plain.specs.Statements.{script_of, statement_at, statement_effect, script_effect, done_effect, with_next, call_effect, plain_effect}
+use Rattle.rt_plain.specs.Shell.{shell_effect}
+use Rattle.rt_plain.proofs.TallyLemmas.{same-set}
+use Rattle.rt_kernel.specs.Called.{called}
+use Rattle.rt_kernel.specs.Own.{begun, next_call}
+use Rattle.rt_kernel.specs.Plain.{is_plain, plain_did}
+use Rattle.rt_kernel.proofs.CurLemmas.{IsFree}
+use Rattle.rt_kernel.proofs.Settled.{settled-kept}
+use Rattle.rt_kernel.proofs.Quiet.{IsQuiet, quiet-then, quiet-row, quiet-plain}
+
+-- of one core, only the first runs a thread
+pub first_core : (o : Option ℕ) (core t : ℕ) → slice_index_or (o ∷ []) core None ≡ Some t → (core ≡ 0) × (o ≡ Some t)
+first_core o zero t runs = (refl, runs)
+first_core o (suc core) t runs = absurd cc
+
+abbrev by_shell : PlainBoard → ℕ → ℕ → State → Bool → Option Retry → Effect
+by_shell b t core s c retry = settled_effect b s (if c then shell_effect b t s else script_effect b t core retry s)
+
+-- a thread without a call to make again, on a board without a shell
+scripted : (b : PlainBoard) (s : State) (t core : ℕ) (st : Stmt) → b.shell ≡ None → (thread_at s t).retry ≡ None → statement_at (script_of b (thread_at s t).name) (thread_at s t).next ≡ st
+    → statement_effect b t core s ≡ settled_effect b s (done_effect b t core (thread_at s t).name (thread_at s t).next st (begun s t))
+scripted b s t core st shell retry is =
+    ap (λ (o : Option ℕ). by_shell b t core s (is_some o && eqb t 0) (thread_at s t).retry) shell
+    ∙ ap (by_shell b t core s false) retry
+    ∙ ap (λ (x : Stmt). settled_effect b s (done_effect b t core (thread_at s t).name (thread_at s t).next x (begun s t))) is
+
+-- a call
+pub call_is : (b : PlainBoard) (s : State) (t core : ℕ) (call : Call) → b.shell ≡ None → core ≡ 0 → (thread_at s t).retry ≡ None → statement_at (script_of b (thread_at s t).name) (thread_at s t).next ≡ Stmt.Do call → statement_effect b t core s ≡ settled_effect b s (next_call b t call s)
+call_is b s t core call shell first retry is =
+    ap (λ n. statement_effect b t n s) first
+    ∙ scripted b s t 0 (Stmt.Do call) shell retry is
+    ∙ ap (λ (name : List ℕ). settled_effect b s (call_effect t (Line.Done name (thread_at s t).next) (outcome_of b call (begun s t) (ByThread t 0) First))) (sym (same-set (λ (row : Thread). row.name) s.threads t t (record (thread_at s t) { next = (thread_at s t).next + 1 }) no_thread refl))
+
+-- a statement that is no call
+done-plain : (b : PlainBoard) (s : State) (t core : ℕ) (st : Stmt) → is_plain st ≡ true → done_effect b t core (thread_at s t).name (thread_at s t).next st (begun s t) ≡ plain_did (script_of b (thread_at s t).name) t st s
+done-plain b s t core (Stmt.Print text) is = refl
+done-plain b s t core (Stmt.Say what) is = refl
+done-plain b s t core (Stmt.Goto k) is = refl
+done-plain b s t core (Stmt.IfCode code k) is = refl
+done-plain b s t core (Stmt.Count n) is = refl
+done-plain b s t core (Stmt.Next k) is = refl
+done-plain b s t core Stmt.Exit is = refl
+done-plain b s t core (Stmt.Do call) is = absurd cc
+
+pub plain_is : (b : PlainBoard) (s : State) (t core : ℕ) (st : Stmt) → IsFree s → b.shell ≡ None → is_plain st ≡ true → (thread_at s t).retry ≡ None → statement_at (script_of b (thread_at s t).name) (thread_at s t).next ≡ st → statement_effect b t core s ≡ plain_did (script_of b (thread_at s t).name) t st s
+plain_is b s t core st free shell plain retry is =
+    let script : List Stmt = script_of b (thread_at s t).name in
+    let did : Effect = plain_did script t st s in
+    let quiet : IsQuiet s did.state = quiet-then s (begun s t) did.state (quiet-row s t (record (thread_at s t) { next = (thread_at s t).next + 1 }) free refl) (quiet-plain script (begun s t) t st free) in
+    scripted b s t core st shell retry is ∙ ap (settled_effect b s) (done-plain b s t core st plain) ∙ settled-kept b s did free quiet.free quiet.bases quiet.votes

@@ -1,0 +1,18 @@
+use Rattle.std.proofs.Common.{◌≡◌, ◌+◌, ◌≤◌, ◌<◌, ◌++◌, List, arith, ℕ, Option, Some, None, refl, sym, ap, ◌∙◌, subst}
+use Rattle.rt_plain.specs.declared.line.Line.{Line}
+use Rattle.rt_plain.specs.PlainBoard.{PlainBoard}
+use Rattle.rt_plain.specs.State.{State}
+use Rattle.rt_plain.specs.Effects.{Effect}
+use Rattle.rt_plain.proofs.Invariant.{Kept}
+use Rattle.rt_kernel.specs.Inside.{frame_of}
+use Rattle.rt_kernel.specs.Seen.{KernelSeen}
+use Rattle.rt_kernel.specs.View.{state_of}
+use Rattle.rt_plain.specs.Due.{due}
+use Rattle.rt_kernel.proofs.KeptLemmas.{begun-kept}
+use Rattle.rt_kernel.proofs.kernel.Kernel.begin_tick.Goals as goal
+
+pub invariant_of-self : goal.invariant_of-self
+invariant_of-self c = record {
+  built = c.self.invariant.built;
+  kept = subst (λ (s : State). Kept (frame_of c.self.inside.board s) s) (sym c.begin_tick.ensures) (begun-kept c.self.inside.board (state_of c.self.inside.records) (ap (λ (k : KernelSeen). due k.state) c.self.view_is ∙ c.requires.none) c.self.invariant.kept);
+}

@@ -1,0 +1,23 @@
+use Rattle.std.proofs.Common.{◌≡◌, ◌≤◌, ◌<◌, length, arith, ℕ, Some, ap, ◌∙◌, subst, refl}
+use Rattle.rt_plain.specs.State.{State, running_on}
+use Rattle.rt_plain.specs.Due.{due}
+use Rattle.rt_plain.specs.Sound.{IsProper}
+use Rattle.rt_kernel.specs.Inside.{frame_of}
+use Rattle.rt_kernel.specs.Seen.{KernelSeen}
+use Rattle.rt_kernel.specs.View.{state_of}
+use Rattle.rt_kernel.proofs.BuiltLemmas.{proper}
+use Rattle.rt_kernel.proofs.KeptLemmas.{due-few, running-there}
+use Rattle.rt_kernel.proofs.kernel.Kernel.facts.Goals as goal
+
+pub returns-clause-proper : goal.returns-clause-proper
+returns-clause-proper c = subst (λ (k : KernelSeen). IsProper k.board) c.self.view_is (proper c.self.inside.board c.self.invariant.built)
+
+pub returns-clause-due : goal.returns-clause-due
+returns-clause-due c =
+    let s : State = state_of c.self.inside.records in
+    subst (λ (k : KernelSeen). length (due k.state) ≤ length k.state.threads) c.self.view_is (due-few (frame_of c.self.inside.board s) s c.self.invariant.kept refl)
+
+pub returns-clause-there : goal.returns-clause-there
+returns-clause-there c =
+    let s : State = state_of c.self.inside.records in
+    subst (λ (k : KernelSeen). (t : ℕ) → running_on k.state 0 ≡ Some t → t < length k.state.threads) c.self.view_is (λ t runs. (running-there (frame_of c.self.inside.board s) s 0 t c.self.invariant.kept runs).0)

@@ -1,0 +1,47 @@
+use Rattle.std.proofs.Common.{◌≡◌, ◌+◌, ◌≤◌, ◌<◌, ◌++◌, List, arith, ℕ, Option, Some, None, true, refl, sym, ap, ◌∙◌, subst, length}
+use Rattle.rt_plain.specs.declared.line.Line.{Line}
+use Rattle.rt_plain.specs.declared.stmt.Stmt.{Stmt}
+use Rattle.rt_plain.specs.PlainBoard.{PlainBoard}
+use Rattle.rt_plain.specs.State.{State, thread_at, running_on}
+use Rattle.rt_plain.specs.Effects.{Effect}
+use Rattle.rt_plain.proofs.Invariant.{Kept}
+use Rattle.rt_kernel.specs.Inside.{frame_of}
+use Rattle.rt_kernel.specs.Seen.{KernelSeen, DoesNext, MayCall}
+use Rattle.rt_kernel.specs.View.{state_of}
+use Rattle.rt_plain.specs.Due.{due, timeout_effect}
+use Rattle.rt_plain.specs.State.{OfThread}
+use Rattle.rt_plain.specs.Calls.{settled_effect}
+use Rattle.rt_plain.specs.Sound.{is_waiting}
+use Rattle.rt_kernel.proofs.KeptLemmas.{fired-kept, due-dropped}
+use Rattle.rt_kernel.proofs.Quiet.{fire_settles}
+use Rattle.rt_kernel.proofs.kernel.Kernel.fire.Given.{Over}
+use Rattle.rt_kernel.proofs.kernel.Kernel.fire.Goals as goal
+
+fired : (g : Over) (c : goal.After-fire g) → state_of c.fire.new.self ≡ (settled_effect c.self.inside.board (state_of c.self.inside.records) (timeout_effect c.args.no (state_of c.self.inside.records))).state
+fired g c =
+    let s : State = state_of c.self.inside.records in
+    c.fire.ensures.state ∙ ap (λ n. (timeout_effect n s).state) c.no.view_is ∙ sym (ap (λ (e : Effect). e.state) (fire_settles c.self.inside.board s c.args.no refl))
+
+pub invariant_of-self : goal.invariant_of-self
+invariant_of-self g c =
+    let s : State = state_of c.self.inside.records in
+    record {
+      built = c.self.invariant.built;
+      kept = subst (λ (u : State). Kept (frame_of c.self.inside.board u) u) (sym (fired g c))
+          (fired-kept c.self.inside.board s c.args.no (ap (λ (k : KernelSeen). is_waiting (thread_at k.state c.args.no).stage) c.self.view_is ∙ c.requires.waits) c.self.invariant.kept);
+    }
+
+pub returns-clause-state : goal.returns-clause-state
+returns-clause-state g c = fired g c ∙ ap (λ (k : KernelSeen). (settled_effect k.board k.state (timeout_effect c.args.no k.state)).state) c.self.view_is
+
+pub returns-clause-lines : goal.returns-clause-lines
+returns-clause-lines g c =
+    let s : State = state_of c.self.inside.records in
+    c.fire.ensures.lines ∙ ap (λ n. c.args.out.now.items ++ (timeout_effect n s).lines) c.no.view_is
+    ∙ sym (ap (λ (e : Effect). c.args.out.now.items ++ e.lines) (fire_settles c.self.inside.board s c.args.no refl))
+    ∙ ap (λ (k : KernelSeen). c.args.out.now.items ++ (settled_effect k.board k.state (timeout_effect c.args.no k.state)).lines) c.self.view_is
+
+pub returns-clause-due : goal.returns-clause-due
+returns-clause-due g c =
+    let s : State = state_of c.self.inside.records in
+    subst (λ (u : State). length (due u) ≤ length (due c.args.self.now.state)) (sym (c.fire.ensures.state)) (subst (λ (k : KernelSeen). length (due (timeout_effect c.no.inside.0 s).state) ≤ length (due k.state)) c.self.view_is (due-dropped s (OfThread c.no.inside.0)))

@@ -1,0 +1,13 @@
+use Rattle.std.proofs.Common.{◌≡◌, ◌+◌, ◌≤◌, ◌<◌, arith, ℕ, Some, None, refl, sym, ap, ◌∙◌, subst}
+use Rattle.rt_plain.specs.State.{State}
+use Rattle.rt_plain.proofs.Invariant.{Kept}
+use Rattle.rt_kernel.specs.Inside.{frame_of}
+use Rattle.rt_kernel.specs.View.{state_of}
+use Rattle.rt_kernel.proofs.KeptLemmas.{switched-kept}
+use Rattle.rt_kernel.proofs.kernel.Kernel.switch.Goals as goal
+
+pub invariant_of-self : goal.invariant_of-self
+invariant_of-self g c = record {
+  built = c.self.invariant.built;
+  kept = subst (λ (s : State). Kept (frame_of c.self.inside.board s) s) (sym c.switch.ensures.state) (switched-kept c.self.inside.board (state_of c.self.inside.records) 0 (rw c.self.invariant.built.cores (omega arith)) c.self.invariant.kept);
+}

@@ -1,0 +1,45 @@
+use Rattle.std.proofs.Common.{◌≡◌, ◌+◌, ◌≤◌, ◌<◌, ◌++◌, List, arith, ℕ, Option, Some, None, true, refl, sym, ap, ◌∙◌, subst, length}
+use Rattle.rt_plain.specs.declared.line.Line.{Line}
+use Rattle.rt_plain.specs.declared.stmt.Stmt.{Stmt}
+use Rattle.rt_plain.specs.PlainBoard.{PlainBoard}
+use Rattle.rt_plain.specs.State.{State, thread_at, running_on}
+use Rattle.rt_plain.specs.Effects.{Effect}
+use Rattle.rt_plain.proofs.Invariant.{Kept}
+use Rattle.rt_kernel.specs.Inside.{frame_of}
+use Rattle.rt_kernel.specs.Seen.{KernelSeen, DoesNext, MayCall}
+use Rattle.rt_kernel.specs.View.{state_of}
+use Rattle.rt_plain.specs.State.{OfThread}
+use Rattle.rt_plain.specs.State.{Alarm}
+use Rattle.std.specs.Option.{option_map}
+use Rattle.rt_plain.specs.Due.{due}
+use Rattle.rt_plain.specs.Sound.{is_waiting}
+use Rattle.rt_kernel.specs.Due.{taken, first_alarm}
+use Rattle.rt_kernel.proofs.KeptLemmas.{taken-kept, first-due}
+use Rattle.rt_kernel.proofs.kernel.Kernel.take_due.Given.{Over}
+use Rattle.rt_kernel.proofs.kernel.Kernel.take_due.Goals as goal
+
+pub invariant_of-self-2 : goal.invariant_of-self-2
+invariant_of-self-2 g c =
+    let s : State = state_of c.self.inside.records in
+    record {
+      built = c.self.invariant.built;
+      kept = subst (λ (u : State). Kept (frame_of c.self.inside.board u) u) (sym (c.take_due.ensures.state ∙ ap (λ (o : Option ℕ). taken s (option_map OfThread o)) c.in_ok-t.was)) (taken-kept c.self.inside.board s (OfThread c.in_ok-t.t) c.self.invariant.kept);
+    }
+
+-- what the taken row says of the state before
+first : (g : Over) (c : goal.After-t g) → (is_waiting (thread_at (state_of c.self.inside.records) c.in_ok-t.t).stage ≡ true) × (length (due (taken (state_of c.self.inside.records) (Some (OfThread c.in_ok-t.t)))) < length (due (state_of c.self.inside.records)))
+first g c =
+    let s : State = state_of c.self.inside.records in
+    first-due (frame_of c.self.inside.board s) s c.in_ok-t.t c.self.invariant.kept (c.take_due.ensures.first ∙ ap (option_map OfThread) c.in_ok-t.was)
+
+state_is : (g : Over) (c : goal.After-t g) → state_of c.take_due.new.self ≡ taken (state_of c.self.inside.records) (Some (OfThread c.in_ok-t.t))
+state_is g c = c.take_due.ensures.state ∙ ap (λ (o : Option ℕ). taken (state_of c.self.inside.records) (option_map OfThread o)) c.in_ok-t.was
+
+pub returns-clause-waits : goal.returns-clause-waits
+returns-clause-waits g c = subst (λ n. is_waiting (thread_at (state_of c.take_due.new.self) n).stage ≡ true) (sym c.t.view_is) (subst (λ (u : State). is_waiting (thread_at u c.in_ok-t.t).stage ≡ true) (sym (state_is g c)) (first g c).0)
+
+pub returns-clause-fewer : goal.returns-clause-fewer
+returns-clause-fewer g c =
+    let s : State = state_of c.self.inside.records in
+    subst (λ (u : State). length (due u) < length (due c.args.self.now.state)) (sym (state_is g c))
+    (subst (λ (k : KernelSeen). length (due (taken s (Some (OfThread c.in_ok-t.t)))) < length (due k.state)) c.self.view_is (first g c).1)

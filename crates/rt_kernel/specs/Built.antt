@@ -1,0 +1,62 @@
+-- Which boards the kernel runs so far. This test goes away once all is built.
+use Rattle.std.specs.Prelude.{◌≡◌, ◌≤◌, ◌<◌, [], IsTrue, Bool, true, false, not, ◌&&◌, None, length, is_some, nat_le, nat_lt, ◌==◌}
+use Rattle.std.specs.List.{list_all}
+use Rattle.rt_plain.specs.declared.board.ThreadDef.{ThreadDef}
+use Rattle.rt_plain.specs.declared.stmt.Call.{Call}
+use Rattle.rt_plain.specs.declared.stmt.Stmt.{Stmt}
+use Rattle.rt_plain.specs.PlainBoard.{PlainBoard}
+
+-- a call on threads, a delay of a tick at least among them
+abbrev pub is_built_call : Call → Bool
+is_built_call (Call.Delay ticks) = nat_lt 0 ticks
+is_built_call Call.Yield = true
+is_built_call (Call.Startup name) = true
+is_built_call (Call.Suspend name) = true
+is_built_call (Call.Resume name) = true
+is_built_call (Call.Kill name) = true
+is_built_call (Call.SetPrio name prio) = true
+is_built_call Call.SchedLock = true
+is_built_call Call.SchedUnlock = true
+is_built_call _ = false
+
+-- a statement that is no call, or one of these calls
+abbrev pub is_built_statement : Stmt → Bool
+is_built_statement (Stmt.Do call) = is_built_call call
+is_built_statement _ = true
+
+-- a thread that is bound to no core
+abbrev pub is_built_thread : ThreadDef → Bool
+is_built_thread def = not (is_some def.core) && (nat_le (length def.script) 512 && list_all is_built_statement def.script)
+
+-- no objects besides threads
+abbrev pub has_threads_alone : PlainBoard → Bool
+has_threads_alone b =
+    ((length b.sems == 0) && (length b.events == 0)) && ((length b.mutexes == 0) && (length b.mailboxes == 0))
+    && (((length b.queues == 0) && (length b.devices == 0)) && ((length b.timers == 0) && (length b.arrivals == 0)))
+
+-- the limits of classes are those that a board may have
+abbrev pub has_limits : PlainBoard → Bool
+has_limits b = nat_le b.limits.sem 256 && (nat_le b.limits.event 256 && nat_le b.limits.mutex 256)
+
+-- one core, no shell, and at most 256 threads
+abbrev pub is_built : PlainBoard → Bool
+is_built b = ((has_threads_alone b && has_limits b) && ((b.cores == 1) && not (is_some b.shell))) && (nat_lt 0 b.until && (nat_le (length b.threads) 256 && list_all is_built_thread b.threads))
+
+-- the same as facts
+pub record IsBuilt (b : PlainBoard) : Type 0 where
+  pub sems : b.sems ≡ []
+  pub events : b.events ≡ []
+  pub mutexes : b.mutexes ≡ []
+  pub mailboxes : b.mailboxes ≡ []
+  pub queues : b.queues ≡ []
+  pub devices : b.devices ≡ []
+  pub timers : b.timers ≡ []
+  pub arrivals : b.arrivals ≡ []
+  pub sem_limit : b.limits.sem ≤ 256
+  pub event_limit : b.limits.event ≤ 256
+  pub mutex_limit : b.limits.mutex ≤ 256
+  pub cores : b.cores ≡ 1
+  pub shell : b.shell ≡ None
+  pub until : 0 < b.until
+  pub few : length b.threads ≤ 256
+  pub threads : IsTrue (list_all is_built_thread b.threads)

@@ -1,0 +1,19 @@
+-- What is true of every kernel.
+use Rattle.std.specs.Prelude.{◌≡◌, ◌≤◌, length, eqb}
+use Rattle.rt_plain.specs.PlainBoard.{PlainBoard}
+use Rattle.rt_plain.specs.State.{State}
+use Rattle.rt_plain.proofs.TallyLemmas.{tally}
+use Rattle.rt_plain.proofs.Invariant.{Frame, Kept}
+use Rattle.rt_plain.proofs.TickLemmas.{less-fits}
+use Rattle.rt_kernel.specs.declared.kernel.Kernel.TheInside.{Inside}
+use Rattle.rt_kernel.specs.Built.{IsBuilt}
+use Rattle.rt_kernel.specs.View.{state_of}
+
+-- now, with what is due now
+abbrev pub frame_of : PlainBoard → State → Frame
+frame_of b s = record { board = b; now = s.tick; low = s.tick; few = tally (λ row. eqb row.due s.tick) s.armed; latest = s.tick; fits = less-fits s.tick }
+
+-- the board is built, and what the rules of the kernel keep holds of the state
+pub record IsKernel (k : Inside) : Type 0 where
+  pub built : IsBuilt k.board
+  pub kept : Kept (frame_of k.board (state_of k.records)) (state_of k.records)

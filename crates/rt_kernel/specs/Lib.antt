@@ -1,0 +1,12 @@
+pub mod Built
+pub mod Best
+pub mod Called
+pub mod Due
+pub mod Inside
+pub mod Own
+pub mod Plain
+pub mod Prio
+pub mod Seen
+pub mod Switched
+pub mod Threads
+pub mod View

@@ -1,0 +1,31 @@
+-- The plain state that the kernel's records stand for. What isn't built yet is constant.
+use Rattle.std.specs.Prelude.{ℕ, [], ◌∷◌, None, replicate}
+use Rattle.rt_base.specs.declared.codes.RunMode.{RunMode}
+use Rattle.rt_plain.specs.State.{State}
+use Rattle.rt_plain.specs.Opening.{new_console}
+use Rattle.rt_kernel.specs.declared.records.Records.{Records}
+
+-- the state
+abbrev pub state_of : Records → State
+state_of k = record {
+  tick = k.tick;
+  numbers = k.numbers;
+  threads = k.threads;
+  sems = [];
+  events = [];
+  mutexes = [];
+  holdings = [];
+  mailboxes = [];
+  queues = [];
+  timers = [];
+  devices = new_console ∷ [];
+  ready = k.ready;
+  running = k.running ∷ [];
+  armed = k.armed;
+  votes = replicate 6 0;
+  run_mode = RunMode.Normal;
+  nest = None;
+  shell_line = [];
+  arrivals = [];
+  halt = None;
+}

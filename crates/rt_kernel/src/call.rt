@@ -1,0 +1,64 @@
+ghost use Rattle.std.specs.Prelude.{◌≡◌, ◌+◌, ◌<◌, ◌≤◌, ◌^◌, ◌-◌, ◌++◌, ◌==◌, ℕ, true, length, filter};
+ghost use Rattle.rt_plain.specs.Outcome.{ByThread, First};
+ghost use Rattle.rt_plain.specs.Calls.{outcome_of, settled_effect};
+ghost use Rattle.rt_kernel.specs.Built.{is_built_call};
+ghost use Rattle.rt_kernel.specs.Called.{plain_answer};
+ghost use Rattle.rt_kernel.specs.Own.{own_effect, begun, next_call};
+ghost use Rattle.rt_kernel.specs.Threads.{row_at};
+ghost use Rattle.rt_kernel.specs.View.{state_of};
+
+use crate::answer::Answer;
+use crate::records::Records;
+use rt_base::ThreadNo;
+use rt_plain::{Board, Call, Lines};
+
+impl Records {
+    // Statement k of a thread, a call, with what follows from it.
+    fn make(&mut self, board: &Board, t: ThreadNo, k: u16, call: &Call, out: &mut Lines) -> Answer
+        requires built { is_built_call call.now ≡ true }
+        requires there { t < length self.old.threads }
+        requires ready { length self.old.ready ≤ 256 }
+        requires once { (u : ℕ) → length (filter (λ v. v == u) self.old.ready) ≤ 1 }
+        requires armed { length self.old.armed ≤ 256 }
+        requires number { self.old.numbers + 2 < 2 ^ 64 }
+        requires lines { length out.old.items + 2 ≤ out.old.room }
+        ensures state { state_of self.new ≡ (own_effect board.now t k call.now (state_of self.old)).state }
+        ensures lines { out.new.items ≡ out.old.items ++ (own_effect board.now t k call.now (state_of self.old)).lines }
+        ensures answer { plain_answer result ≡ (outcome_of board.now call.now (state_of self.old) (ByThread t 0) First).answer }
+        ensures out_room { out.new.room ≡ out.old.room }
+    {
+        let _board = board;
+        match call {
+            Call::Delay(ticks) => self.delay(t, k, *ticks, out),
+            Call::Yield => self.yield_now(t, k, out),
+            Call::Startup(name) => self.startup(t, k, name, out),
+            Call::Suspend(name) => self.suspend_named(t, k, name, out),
+            Call::Resume(name) => self.resume(t, k, name, out),
+            Call::Kill(name) => self.kill(t, k, name, out),
+            Call::SetPrio(name, prio) => self.set_prio(t, k, name, *prio, out),
+            Call::SchedLock => self.sched_lock(t, k, out),
+            Call::SchedUnlock => self.sched_unlock(t, k, out),
+            _ => unreachable!(),
+        }
+    }
+
+    // The call that a thread makes next, with what follows from it.
+    pub fn call(&mut self, board: &Board, t: ThreadNo, call: &Call, out: &mut Lines) -> Answer
+        requires built { is_built_call call.now ≡ true }
+        requires there { t < length self.old.threads }
+        requires next { (row_at self.old.threads t).next < 2 ^ 16 - 1 }
+        requires ready { length self.old.ready ≤ 256 }
+        requires once { (u : ℕ) → length (filter (λ v. v == u) self.old.ready) ≤ 1 }
+        requires armed { length self.old.armed ≤ 256 }
+        requires number { self.old.numbers + 2 < 2 ^ 64 }
+        requires lines { length out.old.items + 2 ≤ out.old.room }
+        ensures state { state_of self.new ≡ (settled_effect board.now (state_of self.old) (next_call board.now t call.now (state_of self.old))).state }
+        ensures lines { out.new.items ≡ out.old.items ++ (settled_effect board.now (state_of self.old) (next_call board.now t call.now (state_of self.old))).lines }
+        ensures answer { plain_answer result ≡ (outcome_of board.now call.now (begun (state_of self.old) t) (ByThread t 0) First).answer }
+        ensures out_room { out.new.room ≡ out.old.room }
+    {
+        let k = self.threads.next(t);
+        self.threads.set_next(t, k + 1);
+        self.make(board, t, k, call, out)
+    }
+}

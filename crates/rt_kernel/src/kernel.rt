@@ -1,0 +1,318 @@
+ghost use Rattle.std.specs.Prelude.{◌≡◌, ◌+◌, ◌<◌, ◌≤◌, ◌^◌, ◌-◌, ◌==◌, ◌++◌, [], ℕ, true, false, length, filter, is_some, IsSome, Some, None, IfSome, IfOk, if◌then◌else◌};
+ghost use Rattle.rt_plain.specs.Opening.{open_state};
+ghost use Rattle.std.specs.Option.{option_map};
+ghost use Rattle.std.specs.Str.{bytes_eq};
+ghost use Rattle.rt_plain.specs.declared.stmt.Stmt.{Stmt as Statement};
+ghost use Rattle.rt_plain.specs.State.{OfThread, thread_at, running_on, is_closed};
+ghost use Rattle.rt_plain.specs.Owners.{close_effect};
+ghost use Rattle.rt_plain.specs.Statements.{script_of, statement_at, statement_effect};
+ghost use Rattle.rt_plain.specs.Outcome.{ByThread, First};
+ghost use Rattle.rt_plain.specs.Calls.{outcome_of, settled_effect};
+ghost use Rattle.rt_plain.specs.Due.{due, timeout_effect};
+ghost use Rattle.rt_plain.specs.Ticks.{next_tick_state};
+ghost use Rattle.rt_plain.specs.Sleeps.{is_empty};
+ghost use Rattle.rt_plain.specs.Sound.{is_waiting, IsProper, IsSized};
+ghost use Rattle.rt_plain.specs.Steps.{is_all_idle, is_preemptible, without_mark};
+ghost use Rattle.rt_plain.proofs.Invariant.{Kept};
+ghost use Rattle.rt_kernel.specs.Built.{IsBuilt, is_built};
+ghost use Rattle.rt_kernel.specs.declared.answer.By.TheVariants.{Thread as ByThreadOn};
+ghost use Rattle.rt_kernel.specs.Called.{plain_answer};
+ghost use Rattle.rt_kernel.specs.Due.{first_alarm, taken};
+ghost use Rattle.rt_kernel.specs.Inside.{frame_of};
+ghost use Rattle.rt_kernel.specs.Own.{begun};
+ghost use Rattle.rt_kernel.specs.Plain.{is_plain};
+ghost use Rattle.rt_kernel.specs.Seen.{DoesNext, MayCall, IsAlone};
+ghost use Rattle.rt_kernel.specs.Switched.{switched, effect_or, AreNumbers};
+ghost use Rattle.rt_kernel.specs.Threads.{row_at, ArePlain};
+ghost use Rattle.rt_kernel.specs.View.{state_of};
+
+use crate::answer::{Answer, By};
+use crate::records::Records;
+use rt_base::{CoreNo, Name, RunMode, Steps, ThreadNo, TimerNo};
+use rt_plain::{Board, Call, Lines, Stmt, ThreadDef};
+use std::alloc::{AllocError, Global};
+use std::marker::Model;
+use std::sync::ledger::Ledger;
+
+/// The kernel of a board: its threads, the ready list, who runs, and what is armed. Contracts see the board and the plain
+/// state. All its records are made when it is opened, and no later call takes memory.
+#[derive(Drop)]
+pub struct Kernel {
+    board: Board,
+    records: Records,
+}
+
+impl Model for Kernel {
+    ghost use Rattle.rt_kernel.specs.Seen.{KernelSeen};
+
+    ghost Value = { KernelSeen };
+
+    ghost use Rattle.rt_kernel.specs.View.{state_of};
+    ghost use Rattle.rt_kernel.specs.Inside.{IsKernel};
+
+    ghost view = { λ k. record { board = k.board; state = state_of k.records } };
+
+    ghost invariant = { IsKernel };
+}
+
+// What the kernel keeps of its records.
+fn facts(board: &Board, records: &Records)
+    requires built { IsBuilt board.now }
+    requires kept { Kept (frame_of board.now (state_of records.now)) (state_of records.now) }
+    ensures ready { length records.now.ready ≤ 256 }
+    ensures armed { length records.now.armed ≤ 256 }
+    ensures there { AreNumbers records.now.threads records.now.ready }
+    ensures once { (u : ℕ) → length (filter (λ v. v == u) records.now.ready) ≤ 1 }
+    ensures running { IfSome records.now.running (λ r. r < length records.now.threads) }
+    ensures next { (r : ℕ) → records.now.running ≡ Some r → (row_at records.now.threads r).next < 2 ^ 16 - 1 }
+{
+    let _board = board;
+    let _records = records;
+}
+
+// What the test of a built board says.
+#[tactic(auto, using(crate::proofs::BuiltLemmas::built_facts))]
+fn built_facts(board: &Board)
+    requires { is_built board.now ≡ true }
+    ensures { IsBuilt board.now }
+{
+    let _board = board;
+}
+
+// Whether a thread has this name.
+fn is_named(def: &ThreadDef, name: &[u8]) -> bool
+    ensures { result ≡ bytes_eq def.now.name name.now }
+{
+    def.name.bytes() == name
+}
+
+// The script of a thread, by its name.
+fn script_of<'a>(board: &'a Board, name: &Name) -> &'a [Stmt]
+    ensures { result.now ≡ script_of board.now name.now }
+{
+    let name = name.bytes();
+    match board.threads.as_slice().iter().find(|def| is_named(def, name)) {
+        Some(def) => def.script.as_slice(),
+        None => &[],
+    }
+}
+
+impl Kernel {
+    /// The kernel as the board opens: all records are made, timers are armed, and the started threads are ready. The one
+    /// refusal is want of memory.
+    pub fn open(alloc: Global, board: Board) -> Result<Kernel, AllocError>
+        requires built { is_built board ≡ true }
+        ensures board { IfOk result (λ k. k.board ≡ board) }
+        ensures state { IfOk result (λ k. k.state ≡ open_state board) }
+    {
+        built_facts(&board);
+        let records = Records::open(alloc, &board)?;
+        Ok(Kernel { board, records })
+    }
+
+    /// What is so in every kernel: the board is built, and what isn't built yet is constant in the state.
+    pub fn facts(&self)
+        ensures proper { IsProper self.now.board }
+        ensures sized { IsSized self.now.board }
+        ensures built { IsBuilt self.now.board }
+        ensures alone { IsAlone self.now.state }
+        ensures plain { ArePlain self.now.state.threads }
+        ensures threads { length self.now.state.threads ≡ length self.now.board.threads }
+        ensures due { length (due self.now.state) ≤ length self.now.state.threads }
+        ensures there { (t : ℕ) → running_on self.now.state 0 ≡ Some t → t < length self.now.state.threads }
+    {
+        self.records.threads.facts();
+    }
+
+    /// The board for which it was opened.
+    pub fn board(&self) -> &Board
+        ensures { result.now ≡ self.now.board }
+    {
+        &self.board
+    }
+
+    /// The tick of now.
+    pub fn tick(&self) -> u32
+        ensures { result ≡ self.now.state.tick }
+    {
+        self.records.tick
+    }
+
+    /// The next start or arrival number.
+    pub fn numbers(&self) -> u64
+        ensures { result ≡ self.now.state.numbers }
+    {
+        self.records.numbers
+    }
+
+    /// The run mode.
+    pub fn run_mode(&self) -> RunMode
+        ensures { result ≡ self.now.state.run_mode }
+    {
+        let _records = &self.records;
+        RunMode::Normal
+    }
+
+    /// The thread that a core runs: `None` exactly where it runs nobody.
+    pub fn running(&self, core: CoreNo) -> Option<ThreadNo>
+        requires { core < self.now.board.cores }
+        ensures { result ≡ running_on self.now.state core }
+    {
+        self.records.running
+    }
+
+    /// Whether no core runs a thread and none is ready.
+    pub fn all_idle(&self) -> bool
+        ensures { result ≡ is_all_idle self.now.state }
+    {
+        self.records.ready.len() == 0 && !self.records.running.is_some()
+    }
+
+    /// Whether nothing is armed.
+    pub fn is_quiet(&self) -> bool
+        ensures { result ≡ is_empty self.now.state.armed }
+    {
+        self.records.armed.is_empty()
+    }
+
+    /// The number of the statement that a thread does next, from 1 on.
+    pub fn next(&self, thread: ThreadNo) -> u16
+        requires { thread < length self.now.state.threads }
+        ensures { result ≡ (thread_at self.now.state thread).next }
+    {
+        self.records.threads.next(thread)
+    }
+
+    /// Case 3 or 4 of a step: a free core takes a thread, or a core one in place of its own. False exactly where neither
+    /// applies, and then nothing changes. It adds at most 2 lines.
+    pub fn switch<L: Ledger>(&mut self, core: CoreNo, out: &mut Lines, steps: &mut Steps<L>) -> bool
+        requires core { core < self.old.board.cores }
+        requires lines { length out.old.items + 2 ≤ out.old.room }
+        ensures board { self.new.board ≡ self.old.board }
+        ensures answer { result ≡ is_some (switched self.old.state core) }
+        ensures state { self.new.state ≡ (effect_or self.old.state (switched self.old.state core)).state }
+        ensures lines { out.new.items ≡ out.old.items ++ (effect_or self.old.state (switched self.old.state core)).lines }
+        ensures out_room { out.new.room ≡ out.old.room }
+    {
+        facts(&self.board, &self.records);
+        self.records.switch(out)
+    }
+
+    /// The mark of a core's thread, as before each of its statements: it goes, unless the thread has a scheduler lock.
+    pub fn unmark(&mut self, core: CoreNo)
+        requires runs { IsSome (running_on self.old.state core) }
+        ensures board { self.new.board ≡ self.old.board }
+        ensures state { (t : ℕ) → running_on self.old.state core ≡ Some t
+            → self.new.state ≡ (if is_preemptible self.old.state core t then without_mark self.old.state t else self.old.state) }
+    {
+        facts(&self.board, &self.records);
+        if let Some(t) = self.records.running {
+            if self.records.is_preemptible(t) {
+                self.records.threads.unmark(t);
+            }
+        }
+    }
+
+    /// The statement that a thread does next, `exit` behind its script.
+    pub fn next_statement(&self, thread: ThreadNo) -> Stmt
+        requires { thread < length self.now.state.threads }
+        ensures { result ≡ statement_at (script_of self.now.board (thread_at self.now.state thread).name) (thread_at self.now.state thread).next }
+    {
+        let name = self.records.threads.name(thread);
+        let k = self.records.threads.next(thread) as usize;
+        match script_of(&self.board, &name).get(k.saturating_sub(1)) {
+            Some(statement) => statement.copy(),
+            None => Stmt::Exit,
+        }
+    }
+
+    /// The next statement of a core's thread, which is no call: its line, and what it does. It adds at most 2 lines.
+    pub fn plain<L: Ledger>(&mut self, core: CoreNo, stmt: &Stmt, out: &mut Lines, steps: &mut Steps<L>)
+        requires next { (t : ℕ) × DoesNext self.old t core stmt.now }
+        requires plain { is_plain stmt.now ≡ true }
+        requires lines { length out.old.items + 2 ≤ out.old.room }
+        ensures board { self.new.board ≡ self.old.board }
+        ensures state { (t : ℕ) → running_on self.old.state core ≡ Some t → self.new.state ≡ (statement_effect self.old.board t core self.old.state).state }
+        ensures lines { (t : ℕ) → running_on self.old.state core ≡ Some t → out.new.items ≡ out.old.items ++ (statement_effect self.old.board t core self.old.state).lines }
+        ensures out_room { out.new.room ≡ out.old.room }
+    {
+        facts(&self.board, &self.records);
+        if let Some(t) = self.records.running {
+            let name = self.records.threads.name(t);
+            let script = script_of(&self.board, &name);
+            self.records.plain(t, script, stmt, out);
+        }
+    }
+
+    /// The call of a thread, which is its next statement, with its line and what follows from it. It answers `Waits`
+    /// exactly where the statement table says so, and else the code. It takes at most 2 numbers, and adds at most 3
+    /// lines. No timer is there yet to make a call.
+    pub fn call<L: Ledger>(&mut self, by: By, call: &Call, out: &mut Lines, steps: &mut Steps<L>) -> Answer
+        requires by { MayCall self.old by call.now }
+        requires number { self.old.state.numbers + 2 < 2 ^ 64 }
+        requires lines { length out.old.items + 2 ≤ out.old.room }
+        ensures board { self.new.board ≡ self.old.board }
+        ensures state { (t core : ℕ) → by ≡ ByThreadOn t core → self.new.state ≡ (statement_effect self.old.board t core self.old.state).state }
+        ensures lines { (t core : ℕ) → by ≡ ByThreadOn t core → out.new.items ≡ out.old.items ++ (statement_effect self.old.board t core self.old.state).lines }
+        ensures answer { (t core : ℕ) → by ≡ ByThreadOn t core → plain_answer result ≡ (outcome_of self.old.board call.now (begun self.old.state t) (ByThread t core) First).answer }
+        ensures out_room { out.new.room ≡ out.old.room }
+    {
+        facts(&self.board, &self.records);
+        match by {
+            By::Thread(t, _) => self.records.call(&self.board, t, call, out),
+            By::Timer(_) => unreachable!(),
+        }
+    }
+
+    /// The begin of a tick, where no row is due any more: the tick rises, and the slices of running threads fall.
+    pub fn begin_tick(&mut self)
+        requires tick { self.old.state.tick < 2 ^ 32 - 1 }
+        requires none { due self.old.state ≡ [] }
+        ensures board { self.new.board ≡ self.old.board }
+        ensures state { self.new.state ≡ next_tick_state self.old.state }
+    {
+        facts(&self.board, &self.records);
+        self.records.begin_tick();
+    }
+
+    /// Takes the row that fires first of those due at the tick: `None` exactly where none is due.
+    pub fn take_due<L: Ledger>(&mut self, steps: &mut Steps<L>) -> Option<TimerNo>
+        ensures board { self.new.board ≡ self.old.board }
+        ensures first { first_alarm (due self.old.state) ≡ option_map OfThread result }
+        ensures state { self.new.state ≡ taken self.old.state (option_map OfThread result) }
+        ensures waits { IfSome result (λ t. is_waiting (thread_at self.new.state t).stage ≡ true) }
+        ensures fewer { IfSome result (λ t. length (due self.new.state) < length (due self.old.state)) }
+    {
+        let t = self.records.take_due()?;
+        Some(TimerNo(t.0))
+    }
+
+    /// The row of a thread fires, which it has no more: the thread leaves its wait, with 0 where it was in `delay`, and
+    /// else with -2. It adds at most 2 lines.
+    pub fn fire<L: Ledger>(&mut self, no: TimerNo, out: &mut Lines, steps: &mut Steps<L>)
+        requires waits { is_waiting (thread_at self.old.state no).stage ≡ true }
+        requires lines { length out.old.items + 2 ≤ out.old.room }
+        ensures board { self.new.board ≡ self.old.board }
+        ensures state { self.new.state ≡ (settled_effect self.old.board self.old.state (timeout_effect no self.old.state)).state }
+        ensures lines { out.new.items ≡ out.old.items ++ (settled_effect self.old.board self.old.state (timeout_effect no self.old.state)).lines }
+        ensures due { length (due self.new.state) ≤ length (due self.old.state) }
+        ensures few { length out.new.items ≡ length out.old.items + 2 }
+        ensures numbers { self.new.state.numbers ≡ self.old.state.numbers }
+        ensures out_room { out.new.room ≡ out.old.room }
+    {
+        facts(&self.board, &self.records);
+        self.records.fire(ThreadNo(no.0), out);
+    }
+
+    /// Ends a thread that hasn't ended, with what follows from it. It adds at most 1 line.
+    pub fn close<L: Ledger>(&mut self, thread: ThreadNo, out: &mut Lines, steps: &mut Steps<L>)
+        requires there { is_closed (thread_at self.old.state thread).stage ≡ false }
+        requires lines { length out.old.items < out.old.room }
+        ensures board { self.new.board ≡ self.old.board }
+        ensures state { self.new.state ≡ (settled_effect self.old.board self.old.state (close_effect thread self.old.state)).state }
+        ensures lines { out.new.items ≡ out.old.items ++ (settled_effect self.old.board self.old.state (close_effect thread self.old.state)).lines }
+        ensures out_room { out.new.room ≡ out.old.room }
+    {
+        self.records.close(thread, out);
+    }
+}

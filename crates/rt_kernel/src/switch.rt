@@ -1,0 +1,146 @@
+ghost use Rattle.std.specs.Prelude.{◌≡◌, ◌+◌, ◌<◌, ◌≤◌, ◌++◌, length, Some, None, IfSome, is_some};
+ghost use Rattle.rt_plain.specs.Pick.{pick};
+ghost use Rattle.rt_plain.specs.Steps.{with_running, preempted_state, is_preemptible, takes_from};
+ghost use Rattle.rt_kernel.specs.Best.{better, base_of};
+ghost use Rattle.rt_kernel.specs.Switched.{switched, effect_or, run_effect, preempt_effect, AreNumbers};
+ghost use Rattle.rt_kernel.specs.View.{state_of};
+
+use crate::records::Records;
+use rt_base::ThreadNo;
+use rt_plain::{Line, Lines};
+
+impl Records {
+    // The better one of what was found and a further thread.
+    fn better(&self, found: Option<ThreadNo>, t: ThreadNo) -> Option<ThreadNo>
+        requires there { t < length self.now.threads }
+        requires found { IfSome found (λ u. u < length self.now.threads) }
+        ensures is { result ≡ better (base_of (state_of self.now)) found t }
+        ensures there { IfSome result (λ u. u < length self.now.threads) }
+    {
+        match found {
+            None => Some(t),
+            Some(u) => {
+                if self.threads.base(t).0 < self.threads.base(u).0 {
+                    Some(t)
+                } else {
+                    Some(u)
+                }
+            }
+        }
+    }
+
+    // The thread that the core takes next.
+    #[tactic(auto, using(crate::proofs::PickLemmas::picking))]
+    pub fn pick(&self) -> Option<ThreadNo>
+        requires { AreNumbers self.now.threads self.now.ready }
+        ensures is { result ≡ pick (state_of self.now) 0 }
+        ensures there { IfSome result (λ u. u < length self.now.threads) }
+    {
+        self.threads.facts();
+        let mut found = None;
+        for i in 0..self.ready.len() {
+            found = self.better(found, self.ready.at(i));
+        }
+        found
+    }
+
+    // Whether a running thread may be preempted: it has no scheduler lock.
+    pub fn is_preemptible(&self, r: ThreadNo) -> bool
+        requires { r < length self.now.threads }
+        ensures { result ≡ is_preemptible (state_of self.now) 0 r }
+    {
+        self.threads.locks(r) == 0
+    }
+
+    // Whether the thread p takes the core from the running thread r.
+    #[tactic(auto, using(crate::proofs::SwitchLemmas::takes_by_base))]
+    fn takes_from(&self, p: ThreadNo, r: ThreadNo) -> bool
+        requires p { p < length self.now.threads }
+        requires r { r < length self.now.threads }
+        ensures { result ≡ takes_from (state_of self.now) p r }
+    {
+        let urgency = self.threads.base(p).0;
+        let other = self.threads.base(r).0;
+        urgency < other || (urgency == other && self.threads.is_marked(r))
+    }
+
+    // The core runs the thread.
+    fn run(&mut self, p: ThreadNo)
+        ensures { state_of self.new ≡ with_running (state_of self.old) 0 p }
+    {
+        self.ready.remove(p);
+        self.running = Some(p);
+    }
+
+    // The running thread leaves for the end of the ready list if it is marked, and else for its front.
+    fn preempt(&mut self, r: ThreadNo)
+        requires there { r < length self.old.threads }
+        requires room { length self.old.ready < 512 }
+        ensures { state_of self.new ≡ preempted_state (state_of self.old) r }
+    {
+        let marked = self.threads.is_marked(r);
+        self.threads.unmark(r);
+        if marked {
+            self.ready.push_last(r);
+        } else {
+            self.ready.push_first(r);
+        }
+    }
+
+    // A free core takes a thread.
+    fn run_free(&mut self, p: ThreadNo, out: &mut Lines)
+        requires there { p < length self.old.threads }
+        requires lines { length out.old.items < out.old.room }
+        ensures state { state_of self.new ≡ (run_effect (state_of self.old) 0 p).state }
+        ensures lines { out.new.items ≡ out.old.items ++ (run_effect (state_of self.old) 0 p).lines }
+        ensures out_room { out.new.room ≡ out.old.room }
+    {
+        out.push(Line::Run(self.threads.name(p)));
+        self.run(p);
+    }
+
+    // A core takes a thread in place of its own.
+    fn run_instead(&mut self, r: ThreadNo, p: ThreadNo, out: &mut Lines)
+        requires p { p < length self.old.threads }
+        requires r { r < length self.old.threads }
+        requires room { length self.old.ready < 512 }
+        requires lines { length out.old.items + 2 ≤ out.old.room }
+        ensures state { state_of self.new ≡ (preempt_effect (state_of self.old) 0 r p).state }
+        ensures lines { out.new.items ≡ out.old.items ++ (preempt_effect (state_of self.old) 0 r p).lines }
+        ensures out_room { out.new.room ≡ out.old.room }
+    {
+        out.push(Line::Out(self.threads.name(r), !self.threads.is_marked(r)));
+        out.push(Line::Run(self.threads.name(p)));
+        self.preempt(r);
+        self.run(p);
+    }
+
+    // The core takes a thread, if one may run there: true where it did.
+    pub fn switch(&mut self, out: &mut Lines) -> bool
+        requires ready { AreNumbers self.old.threads self.old.ready }
+        requires running { IfSome self.old.running (λ r. r < length self.old.threads) }
+        requires room { length self.old.ready < 512 }
+        requires lines { length out.old.items + 2 ≤ out.old.room }
+        ensures answer { result ≡ is_some (switched (state_of self.old) 0) }
+        ensures state { state_of self.new ≡ (effect_or (state_of self.old) (switched (state_of self.old) 0)).state }
+        ensures lines { out.new.items ≡ out.old.items ++ (effect_or (state_of self.old) (switched (state_of self.old) 0)).lines }
+        ensures out_room { out.new.room ≡ out.old.room }
+    {
+        let Some(p) = self.pick() else {
+            return false;
+        };
+        match self.running {
+            None => {
+                self.run_free(p, out);
+                true
+            }
+            Some(r) => {
+                if !(self.is_preemptible(r) && self.takes_from(p, r)) {
+                    return false;
+                }
+                self.run_instead(r, p, out);
+                true
+            }
+        }
+    }
+}

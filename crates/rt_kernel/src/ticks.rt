@@ -1,0 +1,50 @@
+ghost use Rattle.std.specs.Prelude.{◌≡◌, ◌+◌, ◌<◌, ◌≤◌, ◌^◌, ◌-◌, ◌++◌, length, Some, None, IfSome};
+ghost use Rattle.std.specs.Option.{option_map};
+ghost use Rattle.rt_plain.specs.State.{OfThread};
+ghost use Rattle.rt_plain.specs.Due.{due, timeout_effect};
+ghost use Rattle.rt_plain.specs.Ticks.{next_tick_state};
+ghost use Rattle.rt_kernel.specs.Due.{first_alarm, taken};
+ghost use Rattle.rt_kernel.specs.View.{state_of};
+
+use crate::records::Records;
+use rt_base::ThreadNo;
+use rt_plain::{Line, Lines};
+
+impl Records {
+    // The tick rises, and the slice of the running thread falls.
+    pub fn begin_tick(&mut self)
+        requires tick { self.old.tick < 2 ^ 32 - 1 }
+        requires running { IfSome self.old.running (λ r. r < length self.old.threads) }
+        ensures { state_of self.new ≡ next_tick_state (state_of self.old) }
+    {
+        self.tick += 1;
+        if let Some(t) = self.running {
+            self.threads.fall(t);
+        }
+    }
+
+    // Takes the row that fires next at this tick, if one is due.
+    #[tactic(auto, using(crate::proofs::DueLemmas::first_due_is))]
+    pub fn take_due(&mut self) -> Option<ThreadNo>
+        ensures first { first_alarm (due (state_of self.old)) ≡ option_map OfThread result }
+        ensures state { state_of self.new ≡ taken (state_of self.old) (option_map OfThread result) }
+    {
+        let t = self.armed.first_due(self.tick as u64)?;
+        self.armed.remove(t);
+        Some(t)
+    }
+
+    // The row of a thread fires: the thread leaves its wait.
+    pub fn fire(&mut self, t: ThreadNo, out: &mut Lines)
+        requires there { t < length self.old.threads }
+        requires room { length self.old.ready < 512 }
+        requires lines { length out.old.items + 2 ≤ out.old.room }
+        ensures state { state_of self.new ≡ (timeout_effect t (state_of self.old)).state }
+        ensures lines { out.new.items ≡ out.old.items ++ (timeout_effect t (state_of self.old)).lines }
+        ensures out_room { out.new.room ≡ out.old.room }
+    {
+        let code = self.threads.timeout_code(t);
+        out.push(Line::Timeout(self.threads.name(t)));
+        self.wake(t, code, out);
+    }
+}
