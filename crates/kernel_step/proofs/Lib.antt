@@ -1,6 +1,7 @@
 -- Lemmas.
-pub mod Table
 pub mod BuiltLemmas
-pub mod OpenLemmas
+pub mod StepLemmas
+pub mod FireLemmas
+pub mod TickLemmas
 pub mod MachineLemmas
 pub mod RunnerLemmas

@@ -147,8 +147,8 @@ on_way-opened b m left built board course pace period =
       period = period;
       few = omega (arith, none);
       fuel = most_turns b [];
-      enough = rw (board, course, built.cores) (omega (arith, period));
-      rest = rw (course, left_b, ← rounds-one b (round_count (open_state b).run_mode) built.cores, built.schedule) refl;
+      enough = rw (board, course, built.kernel.cores) (omega (arith, period));
+      rest = rw (course, left_b, ← rounds-one b (round_count (open_state b).run_mode) built.kernel.cores, built.schedule) refl;
     }
 
 -- what an event makes of a machine, from the one before room was made
@@ -199,7 +199,7 @@ SchedulesComplete = (over : List Entry → Bool) (b : PlainBoard) (journal : Lis
 
 -- a built board has one core, and its schedule lists no events
 driveable : (b : PlainBoard) → IsBuilt b → IsDriveable b
-driveable b built = record { some_core = rw built.cores (omega arith); listed = rw built.schedule (All-nil _) }
+driveable b built = record { some_core = rw built.kernel.cores (omega arith); listed = rw built.schedule (All-nil _) }
 
 -- a machine that made the run of a built board
 pub completed : SchedulesComplete → (b board : PlainBoard) (c : Course) → IsBuilt board → board ≡ b → c ≡ run_of b → HasCompleted board c

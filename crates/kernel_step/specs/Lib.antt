@@ -1,6 +1,6 @@
 pub mod Built
 pub mod Whole
-pub mod Fits
+pub mod Firing
 pub mod Gives
 pub mod Seen
 pub mod Inside

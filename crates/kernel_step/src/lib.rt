@@ -3,9 +3,8 @@
 
 mod built;
 mod did;
-mod kernel;
+mod engine;
 mod machine;
-mod row;
 mod runner;
 
 pub use built::is_built;

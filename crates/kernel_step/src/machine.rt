@@ -1,16 +1,22 @@
-ghost use Rattle.std.specs.Prelude.{◌≡◌, ◌↔◌, ◌+◌, ◌<◌, ◌≤◌, ◌^◌, [], IfOk, OnOk, OnErr, IsErrOf, None, false, true, length};
+ghost use Rattle.std.specs.Prelude.{◌≡◌, ◌↔◌, ◌+◌, ◌<◌, ◌≤◌, ◌^◌, ◌-◌, [], IfOk, OnOk, OnErr, IsErrOf, None, List, false, true, length};
 ghost use Rattle.rt_plain.specs.Runs.{IsReached, opened, after, room, is_event_of, line_count};
 ghost use Rattle.rt_plain.specs.Runs.{is_over};
 ghost use Rattle.rt_plain.specs.Schedules.{is_sleep_of, round_count, is_stopped};
+ghost use Rattle.rt_base.specs.declared.codes.Event.{Event as Occurrence};
+ghost use Rattle.rt_plain.specs.declared.line.Line.{Line};
+ghost use Rattle.rt_plain.specs.State.{State};
+ghost use Rattle.rt_plain.specs.Due.{due};
+ghost use Rattle.rt_plain.specs.Sleeps.{Made};
 ghost use Rattle.rt_plain.specs.Steps.{happens};
 ghost use Rattle.kernel_step.specs.Built.{IsBuilt, is_built};
 ghost use Rattle.kernel_step.specs.Seen.{did_by, limit_of, picked_tick};
 ghost use Rattle.kernel_step.specs.declared.machine.StartFault.TheVariants.{Memory};
 
-use crate::row::Kernel;
+use crate::engine::Engine;
 use crate::{Did, is_built};
 use journal::Journal;
 use rt_base::{Event, Halt, Steps};
+use rt_plain::laws::{lines_fit_the_room, numbers_stay_small, reached_states_are_sound};
 use rt_plain::{Board, Lines};
 use std::alloc::{AllocError, Global};
 use std::marker::Model;
@@ -38,8 +44,7 @@ impl From<AllocError> for StartFault {
 /// This project's own.
 #[derive(Drop)]
 pub struct Machine {
-    board: Board,
-    kernel: Kernel,
+    engine: Engine,
     journal: Journal,
     halt: Option<Halt>,
     lines: Lines,
@@ -54,8 +59,8 @@ impl Model for Machine {
     ghost use Rattle.kernel_step.specs.Whole.{state_of};
 
     ghost view = { λ m. record {
-      board = m.board;
-      course = record { state = state_of m.kernel; journal = m.journal.entries; halt = m.halt };
+      board = m.engine.kernel.board;
+      course = record { state = state_of m.engine; journal = m.journal.entries; halt = m.halt };
       spare = spare_of m.journal.spare_entries m.journal.spare_lines;
     } };
 
@@ -70,11 +75,10 @@ fn facts(board: &Board)
 {}
 
 // Room for the lines of any one event.
-#[tactic(auto, using(crate::proofs::OpenLemmas::built_room))]
+#[tactic(auto, using(crate::proofs::BuiltLemmas::built_room))]
 fn room_for(board: &Board) -> usize
     requires { IsBuilt board.now }
     ensures value { result ≡ room board.now }
-    ensures some { 2 ≤ result }
 {
     let threads = board.threads.len();
     (threads + 1) * (2 * threads + 4) + 305
@@ -102,11 +106,10 @@ impl Machine {
             return Err(StartFault::Later);
         }
         facts(&board);
-        let kernel = Kernel::open(&board);
         let lines = Lines::new(alloc, room_for(&board))?;
+        let engine = Engine::open(alloc, board)?;
         Ok(Machine {
-            board,
-            kernel,
+            engine,
             journal: Journal::new(alloc),
             halt: None,
             lines,
@@ -117,7 +120,7 @@ impl Machine {
     pub fn room(&self) -> usize
         ensures { result ≡ room self.now.board }
     {
-        room_for(&self.board)
+        room_for(self.engine.board())
     }
 
     /// For how many lines there is room, 0 where no entry has room.
@@ -140,6 +143,24 @@ impl Machine {
         self.journal.reserve(1, room)
     }
 
+    // What the run so far says of the next event: no row is due, the last tick is ahead, numbers are small, and its
+    // lines fit.
+    #[tactic(auto, using(crate::proofs::MachineLemmas::on_way))]
+    fn is_on_way(&self)
+        requires live { self.now.course.halt ≡ None }
+        ensures none { due self.now.course.state ≡ [] }
+        ensures tick { self.now.course.state.tick < 2 ^ 32 - 1 }
+        ensures number { self.now.course.state.numbers + 2 < 2 ^ 64 }
+        ensures lines { (event : Occurrence) (new : State) (lines : List Line) → happens self.now.board self.now.course.state event ≡ Made new lines → length lines ≤ room self.now.board }
+    {
+        reached_states_are_sound();
+        lines_fit_the_room();
+        numbers_stay_small();
+        self.engine.facts();
+        let _until = self.engine.board().until;
+        let _entries = self.journal.entries();
+    }
+
     // One event, which makes no sleep so far.
     pub(crate) fn make<L: Ledger>(&mut self, event: Event, steps: &mut Steps<L>) -> Did
         requires room { room self.old.board ≤ self.old.spare }
@@ -153,14 +174,14 @@ impl Machine {
         if let Some(halt) = self.halt {
             return Did::Halted(halt);
         }
-        let _entries = self.journal.entries();
-        let before = self.kernel.tick();
-        let did = self.kernel.event(&self.board, &event, &mut self.lines);
+        self.is_on_way();
+        let before = self.engine.tick();
+        let did = self.engine.event(&event, &mut self.lines, steps);
         match did {
             Did::Entry => {
-                let tick = tick_for(&event, before, self.kernel.tick());
+                let tick = tick_for(&event, before, self.engine.tick());
                 self.journal.push(event, tick, &mut self.lines);
-                self.halt = self.kernel.halt();
+                self.halt = self.engine.halt();
             }
             Did::Same => {}
             Did::Halted(halt) => self.halt = Some(halt),
@@ -187,7 +208,7 @@ impl Machine {
     pub fn board(&self) -> &Board
         ensures { result.now ≡ self.now.board }
     {
-        &self.board
+        self.engine.board()
     }
 
     /// What has happened. The machine's state is that of the run of these entries.
@@ -209,7 +230,7 @@ impl Machine {
     pub fn tick(&self) -> u32
         ensures { result ≡ self.now.course.state.tick }
     {
-        self.kernel.tick()
+        self.engine.tick()
     }
 
     /// The numbers of entries and lines, where the machine hasn't halted and meets a limit: its entries are the
@@ -227,8 +248,8 @@ impl Machine {
     fn is_over(&self) -> bool
         ensures { result ≡ is_over self.now.board self.now.course.journal }
     {
-        let lines = self.journal.lines() as u64 + room_for(&self.board) as u64;
-        self.journal.entries() == self.board.entries || lines > 4_000_000
+        let lines = self.journal.lines() as u64 + room_for(self.engine.board()) as u64;
+        self.journal.entries() == self.engine.board().entries || lines > 4_000_000
     }
 
     // Whether no further event is made: the machine has halted, or meets a limit.
@@ -243,7 +264,7 @@ impl Machine {
         ensures rounds { result ≡ round_count self.now.course.state.run_mode }
         ensures few { result ≤ 8 }
     {
-        self.kernel.pace()
+        self.engine.pace()
     }
 
     // No core holds the lock over all cores, and the board is built.
@@ -251,6 +272,6 @@ impl Machine {
         ensures nest { self.now.course.state.nest ≡ None }
         ensures built { IsBuilt self.now.board }
     {
-        self.kernel.free();
+        self.engine.facts();
     }
 }

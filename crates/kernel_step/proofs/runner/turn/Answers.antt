@@ -7,7 +7,7 @@ use Rattle.kernel_step.proofs.runner.turn.Goals as goal
 pub returns-then-left-eq0-clause-turned : goal.returns-then-left-eq0-clause-turned
 returns-then-left-eq0-clause-turned g c =
     let live = (going c.args.machine.now.board c.args.machine.now.course c.requires.going).0 in
-    turned-tick c.args.machine.now.board c.args.machine.now.course _ c.args.left c.pace.result c.if-left-eq0.true c.facts.ensures.built.cores live c.facts.ensures.nest
+    turned-tick c.args.machine.now.board c.args.machine.now.course _ c.args.left c.pace.result c.if-left-eq0.true c.facts.ensures.built.kernel.cores live c.facts.ensures.nest
     (awake-old _ _ _ _ Event.Tick c.in_ok-reserve.ensures.course c.in_ok-reserve.ensures.board live c.make.ensures.awake)
     (from-old _ _ _ _ _ Event.Tick c.in_ok-reserve.ensures.course c.in_ok-reserve.ensures.board c.make.ensures.course)
     c.pace.ensures.rounds

@@ -1,0 +1,245 @@
+ghost use Rattle.std.specs.Prelude.{◌≡◌, ◌+◌, ◌*◌, ◌<◌, ◌≤◌, ◌^◌, ◌-◌, ◌==◌, ◌++◌, [], ℕ, true, false, length, ◌&&◌, Some, None, IfOk, if◌then◌else◌};
+ghost use Rattle.rt_base.specs.declared.codes.Event.TheVariants.{Step, Tick as TickEvent};
+ghost use Rattle.rt_plain.specs.State.{thread_at, running_on};
+ghost use Rattle.rt_plain.specs.Due.{due};
+ghost use Rattle.rt_plain.specs.Opening.{open_state};
+ghost use Rattle.rt_plain.specs.Schedules.{is_sleep, round_count};
+ghost use Rattle.rt_plain.specs.Sleeps.{Made, is_empty};
+ghost use Rattle.rt_plain.specs.Statements.{statement_effect};
+ghost use Rattle.rt_plain.specs.Steps.{happens, is_all_idle};
+ghost use Rattle.rt_base.specs.declared.codes.Halt.TheVariants.{Quiet, Until};
+ghost use Rattle.kernel_step.specs.declared.did.Did.TheVariants.{Halted, Same};
+ghost use Rattle.rt_plain.specs.Ticks.{next_tick_state, alarms_effect};
+ghost use Rattle.rt_plain.specs.Runs.{is_event_of};
+ghost use Rattle.rt_plain.specs.Sound.{IsProper, IsSized};
+ghost use Rattle.rt_kernel.specs.Switched.{switched};
+ghost use Rattle.rt_kernel.specs.Built.{is_built as is_built_for_kernel};
+ghost use Rattle.kernel_step.specs.Built.{IsBuilt, is_built};
+ghost use Rattle.kernel_step.specs.Gives.{Gives};
+ghost use Rattle.kernel_step.specs.Whole.{state_of};
+
+use crate::Did;
+use rt_base::{CoreNo, Event, Halt, RunMode, Steps, ThreadNo};
+use rt_kernel::{By, Kernel};
+use rt_plain::{Board, Lines, Stmt};
+use std::alloc::{AllocError, Global};
+use std::sync::ledger::Ledger;
+
+/// The kernel, and how its last tick has halted it.
+#[derive(Drop)]
+pub(crate) struct Engine {
+    pub(crate) kernel: Kernel,
+    pub(crate) halt: Option<Halt>,
+}
+
+// All rows that are due fire, the one that was armed first before the others.
+fn fire_due<L: Ledger>(kernel: &mut Kernel, out: &mut Lines, steps: &mut Steps<L>)
+    requires lines { length out.old.items + 2 * length (due kernel.old.state) ≤ out.old.room }
+    requires awake { is_sleep out.old.items ≡ false }
+    ensures board { kernel.new.board ≡ kernel.old.board }
+    ensures state { kernel.new.state ≡ (alarms_effect kernel.old.board kernel.old.state).state }
+    ensures lines { out.new.items ≡ out.old.items ++ (alarms_effect kernel.old.board kernel.old.state).lines }
+    ensures out_room { out.new.room ≡ out.old.room }
+    ensures awake { is_sleep out.new.items ≡ false }
+    ensures numbers { kernel.new.state.numbers ≡ kernel.old.state.numbers }
+{
+    while let Some(no) = kernel.take_due(steps) {
+        kernel.fire(no, out, steps);
+    }
+}
+
+// The next statement of the thread that a core runs.
+fn go_on<L: Ledger>(
+    kernel: &mut Kernel,
+    core: CoreNo,
+    t: ThreadNo,
+    out: &mut Lines,
+    steps: &mut Steps<L>,
+)
+    requires runs { running_on kernel.old.state core ≡ Some t }
+    requires core { core ≡ 0 }
+    requires number { kernel.old.state.numbers + 2 < 2 ^ 64 }
+    requires empty { out.old.items ≡ [] }
+    requires room { 2 ≤ out.old.room }
+    ensures board { kernel.new.board ≡ kernel.old.board }
+    ensures state { kernel.new.state ≡ (statement_effect kernel.old.board t core kernel.old.state).state }
+    ensures lines { out.new.items ≡ (statement_effect kernel.old.board t core kernel.old.state).lines }
+    ensures awake { is_sleep out.new.items ≡ false }
+    ensures out_room { out.new.room ≡ out.old.room }
+{
+    kernel.facts();
+    match kernel.next_statement(t) {
+        Stmt::Do(call) => {
+            kernel.call(By::Thread(t, core), &call, out, steps);
+        }
+        statement => kernel.plain(core, &statement, out, steps),
+    }
+}
+
+// A core without a thread waits, and the machine halts where no thread ever goes on.
+fn at_rest(kernel: &Kernel) -> Did
+    ensures { result ≡ (if is_all_idle kernel.now.state && is_empty kernel.now.state.armed then Halted Quiet else Same) }
+{
+    if kernel.all_idle() && kernel.is_quiet() {
+        Did::Halted(Halt::Quiet)
+    } else {
+        Did::Same
+    }
+}
+
+// One step of the core: it takes a thread, or its thread goes on, or it waits.
+fn core_step<L: Ledger>(kernel: &mut Kernel, out: &mut Lines, steps: &mut Steps<L>) -> Did
+    requires built { IsBuilt kernel.old.board }
+    requires empty { out.old.items ≡ [] }
+    requires room { 2 ≤ out.old.room }
+    requires number { kernel.old.state.numbers + 2 < 2 ^ 64 }
+    ensures gives { Gives (happens kernel.old.board kernel.old.state (Step 0)) result kernel.old.state kernel.new.state out.new.items }
+    ensures board { kernel.new.board ≡ kernel.old.board }
+    ensures awake { is_sleep out.new.items ≡ false }
+    ensures out_room { out.new.room ≡ out.old.room }
+{
+    kernel.facts();
+    let core = CoreNo(0);
+    if kernel.switch(core, out, steps) {
+        return Did::Entry;
+    }
+    match kernel.running(core) {
+        Some(t) => {
+            kernel.unmark(core);
+            go_on(kernel, core, t, out, steps);
+            Did::Entry
+        }
+        None => at_rest(kernel),
+    }
+}
+
+// The machine halts at the board's last tick.
+fn halt_at_end(kernel: &Kernel) -> Option<Halt>
+    ensures { result ≡ (if kernel.now.state.tick == kernel.now.board.until then Some Until else None) }
+{
+    if kernel.tick() == kernel.board().until {
+        Some(Halt::Until)
+    } else {
+        None
+    }
+}
+
+impl Engine {
+    /// The kernel as the board opens. The one refusal is want of memory.
+    pub(crate) fn open(alloc: Global, board: Board) -> Result<Engine, AllocError>
+        requires { is_built board ≡ true }
+        ensures board { IfOk result (λ k. k.kernel.board ≡ board) }
+        ensures state { IfOk result (λ k. state_of k ≡ open_state board) }
+    {
+        let kernel = Kernel::open(alloc, board)?;
+        kernel.facts();
+        Ok(Engine { kernel, halt: None })
+    }
+
+    // One step of the core.
+    fn step<L: Ledger>(&mut self, out: &mut Lines, steps: &mut Steps<L>) -> Did
+        requires built { IsBuilt self.old.kernel.board }
+        requires live { self.old.halt ≡ None }
+        requires empty { out.old.items ≡ [] }
+        requires room { 2 ≤ out.old.room }
+        requires number { self.old.kernel.state.numbers + 2 < 2 ^ 64 }
+        ensures gives { Gives (happens self.old.kernel.board (state_of self.old) (Step 0)) result (state_of self.old) (state_of self.new) out.new.items }
+        ensures board { self.new.kernel.board ≡ self.old.kernel.board }
+        ensures awake { is_sleep out.new.items ≡ false }
+        ensures out_room { out.new.room ≡ out.old.room }
+    {
+        self.kernel.facts();
+        let did = core_step(&mut self.kernel, out, steps);
+        self.kernel.facts();
+        did
+    }
+
+    // One tick.
+    fn ticks<L: Ledger>(&mut self, out: &mut Lines, steps: &mut Steps<L>)
+        requires live { self.old.halt ≡ None }
+        requires none { due self.old.kernel.state ≡ [] }
+        requires tick { self.old.kernel.state.tick < 2 ^ 32 - 1 }
+        requires empty { out.old.items ≡ [] }
+        requires room { 2 * length self.old.kernel.board.threads ≤ out.old.room }
+        ensures did { happens self.old.kernel.board (state_of self.old) TickEvent ≡ Made (state_of self.new) out.new.items }
+        ensures board { self.new.kernel.board ≡ self.old.kernel.board }
+        ensures awake { is_sleep out.new.items ≡ false }
+        ensures out_room { out.new.room ≡ out.old.room }
+    {
+        self.kernel.facts();
+        self.kernel.begin_tick();
+        self.kernel.facts();
+        fire_due(&mut self.kernel, out, steps);
+        self.kernel.facts();
+        self.halt = halt_at_end(&self.kernel);
+    }
+
+    /// One event: a step of the core, or a tick.
+    #[tactic(auto, unfolding(crate::specs::Whole::state_of))]
+    pub(crate) fn event<L: Ledger>(&mut self, event: &Event, out: &mut Lines, steps: &mut Steps<L>) -> Did
+        requires built { IsBuilt self.old.kernel.board }
+        requires live { self.old.halt ≡ None }
+        requires core { is_event_of self.old.kernel.board event.now ≡ true }
+        requires none { due (state_of self.old) ≡ [] }
+        requires tick { (state_of self.old).tick < 2 ^ 32 - 1 }
+        requires number { (state_of self.old).numbers + 2 < 2 ^ 64 }
+        requires empty { out.old.items ≡ [] }
+        requires room { 2 * length self.old.kernel.board.threads + 2 ≤ out.old.room }
+        ensures gives { Gives (happens self.old.kernel.board (state_of self.old) event.now) result (state_of self.old) (state_of self.new) out.new.items }
+        ensures board { self.new.kernel.board ≡ self.old.kernel.board }
+        ensures awake { is_sleep out.new.items ≡ false }
+        ensures out_room { out.new.room ≡ out.old.room }
+    {
+        match event {
+            Event::Step(_) => self.step(out, steps),
+            Event::Tick => {
+                self.ticks(out, steps);
+                Did::Entry
+            }
+        }
+    }
+
+    /// The board.
+    pub(crate) fn board(&self) -> &Board
+        ensures { result.now ≡ self.now.kernel.board }
+    {
+        self.kernel.board()
+    }
+
+    /// The tick of now.
+    #[tactic(auto, unfolding(crate::specs::Whole::state_of))]
+    pub(crate) fn tick(&self) -> u32
+        ensures { result ≡ (state_of self.now).tick }
+    {
+        self.kernel.tick()
+    }
+
+    /// How the last tick halted it.
+    #[tactic(auto, unfolding(crate::specs::Whole::state_of))]
+    pub(crate) fn halt(&self) -> Option<Halt>
+        ensures { result ≡ (state_of self.now).halt }
+    {
+        self.halt
+    }
+
+    /// How many rounds the next period has.
+    #[tactic(auto, unfolding(crate::specs::Whole::state_of))]
+    pub(crate) fn pace(&self) -> u8
+        ensures rounds { result ≡ round_count (state_of self.now).run_mode }
+        ensures few { result ≤ 8 }
+    {
+        self.kernel.facts();
+        4
+    }
+
+    /// What is so in every engine: the board is valid enough for the laws of the plain kernel, and no core holds the
+    /// lock over all cores.
+    #[tactic(auto, unfolding(crate::specs::Whole::state_of))]
+    pub(crate) fn facts(&self)
+        ensures proper { IsProper self.now.kernel.board }
+        ensures sized { IsSized self.now.kernel.board }
+        ensures nest { (state_of self.now).nest ≡ None }
+    {
+        self.kernel.facts();
+    }
+}
