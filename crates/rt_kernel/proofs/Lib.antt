@@ -13,3 +13,4 @@ pub mod RowLemmas
 pub mod Settled
 pub mod StatementLemmas
 pub mod SwitchLemmas
+pub mod ViewLemmas

@@ -7,6 +7,7 @@ pub mod Own
 pub mod Plain
 pub mod Prio
 pub mod Seen
+pub mod Shown
 pub mod Switched
 pub mod Threads
 pub mod View

@@ -38,8 +38,8 @@ use std::sync::ledger::Ledger;
 /// state. All its records are made when it is opened, and no later call takes memory.
 #[derive(Drop)]
 pub struct Kernel {
-    board: Board,
-    records: Records,
+    pub(crate) board: Board,
+    pub(crate) records: Records,
 }
 
 impl Model for Kernel {
@@ -91,7 +91,12 @@ fn script_of<'a>(board: &'a Board, name: &Name) -> &'a [Stmt]
     ensures { result.now ≡ script_of board.now name.now }
 {
     let name = name.bytes();
-    match board.threads.as_slice().iter().find(|def| is_named(def, name)) {
+    match board
+        .threads
+        .as_slice()
+        .iter()
+        .find(|def| is_named(def, name))
+    {
         Some(def) => def.script.as_slice(),
         None => &[],
     }
@@ -227,7 +232,13 @@ impl Kernel {
     }
 
     /// The next statement of a core's thread, which is no call: its line, and what it does. It adds at most 2 lines.
-    pub fn plain<L: Ledger>(&mut self, core: CoreNo, stmt: &Stmt, out: &mut Lines, steps: &mut Steps<L>)
+    pub fn plain<L: Ledger>(
+        &mut self,
+        core: CoreNo,
+        stmt: &Stmt,
+        out: &mut Lines,
+        steps: &mut Steps<L>,
+    )
         requires next { (t : ℕ) × DoesNext self.old t core stmt.now }
         requires plain { is_plain stmt.now ≡ true }
         requires lines { length out.old.items + 2 ≤ out.old.room }
@@ -247,7 +258,13 @@ impl Kernel {
     /// The call of a thread, which is its next statement, with its line and what follows from it. It answers `Waits`
     /// exactly where the statement table says so, and else the code. It takes at most 2 numbers, and adds at most 3
     /// lines. No timer is there yet to make a call.
-    pub fn call<L: Ledger>(&mut self, by: By, call: &Call, out: &mut Lines, steps: &mut Steps<L>) -> Answer
+    pub fn call<L: Ledger>(
+        &mut self,
+        by: By,
+        call: &Call,
+        out: &mut Lines,
+        steps: &mut Steps<L>,
+    ) -> Answer
         requires by { MayCall self.old by call.now }
         requires number { self.old.state.numbers + 2 < 2 ^ 64 }
         requires lines { length out.old.items + 2 ≤ out.old.room }

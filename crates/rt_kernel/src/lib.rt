@@ -15,6 +15,7 @@ mod rows;
 mod switch;
 mod thread_calls;
 mod ticks;
+mod view;
 
 pub use answer::{Answer, By};
 pub use built::is_built;

@@ -2,10 +2,11 @@ ghost use Rattle.std.specs.Prelude.{◌≡◌, false, true};
 ghost use Rattle.rt_plain.specs.State.{is_closed, is_initial, is_suspended};
 ghost use Rattle.rt_plain.specs.Sound.{is_waiting};
 ghost use Rattle.rt_plain.specs.Due.{timeout_code};
+ghost use Rattle.rt_plain.specs.Rows.{state_at};
 ghost use Rattle.rt_kernel.specs.Threads.{stage_of};
 
 use rt_base::Code;
-use rt_plain::Call;
+use rt_plain::{Call, ThreadState};
 
 /// Where a thread stands.
 #[derive(Drop)]
@@ -69,6 +70,18 @@ impl Place {
         match self {
             Place::Waiting(Call::Delay(_), _) => Code::Ok,
             _ => Code::Timeout,
+        }
+    }
+
+    // What the table of threads says, with whether the thread runs.
+    pub fn state(&self, running: bool) -> ThreadState
+        ensures { result ≡ state_at running (stage_of self.now) }
+    {
+        match self {
+            Place::Initial => ThreadState::Initial,
+            Place::Active if running => ThreadState::Running,
+            Place::Active => ThreadState::Ready,
+            _ => ThreadState::Suspended,
         }
     }
 }

@@ -99,7 +99,11 @@ impl Records {
         self.numbers += 1;
         if let Some(due) = due {
             let number = self.numbers;
-            self.armed.push(Armed { due, number, thread: t });
+            self.armed.push(Armed {
+                due,
+                number,
+                thread: t,
+            });
             self.numbers += 1;
         }
     }

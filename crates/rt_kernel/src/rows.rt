@@ -4,11 +4,13 @@ ghost use Rattle.std.specs.Str.{bytes_eq};
 ghost use Rattle.rt_plain.specs.State.{is_closed, is_initial, is_suspended, Closed};
 ghost use Rattle.rt_plain.specs.Sound.{is_waiting};
 ghost use Rattle.rt_plain.specs.Due.{timeout_code};
+ghost use Rattle.rt_plain.specs.Rows.{state_at};
 ghost use Rattle.rt_plain.specs.Ticks.{thread_after_slice};
 ghost use Rattle.rt_kernel.specs.Threads.{stage_of, plain_thread, with_row, row_at, is_found, ArePlain};
 
 use crate::place::Place;
 use rt_base::{Code, Name, Prio, ThreadNo};
+use rt_plain::ThreadState;
 use std::marker::Model;
 
 /// A thread: its priority and slice, where it stands, and what its last calls left.
@@ -123,6 +125,14 @@ impl Rows {
         self.items[t.0 as usize].base
     }
 
+    // The ticks left of the slice of a thread.
+    pub fn left(&self, t: ThreadNo) -> u8
+        requires { t < length self.now }
+        ensures { result ≡ (row_at self.now t).left }
+    {
+        self.items[t.0 as usize].left
+    }
+
     // The number of the statement that a thread does next.
     pub fn next(&self, t: ThreadNo) -> u16
         requires { t < length self.now }
@@ -209,6 +219,14 @@ impl Rows {
         ensures { result ≡ is_waiting (row_at self.now t).stage }
     {
         self.items[t.0 as usize].place.is_waiting()
+    }
+
+    // What the table of threads says of a thread, with whether it runs.
+    pub fn state(&self, t: ThreadNo, running: bool) -> ThreadState
+        requires { t < length self.now }
+        ensures { result ≡ state_at running (row_at self.now t).stage }
+    {
+        self.items[t.0 as usize].place.state(running)
     }
 
     // The thread stands somewhere else.

@@ -229,7 +229,14 @@ impl Records {
 
     // The thread of this name has another base priority. Where it is new, its line is shown, and it goes to the end of
     // the ready list.
-    pub fn set_prio(&mut self, t: ThreadNo, k: u16, name: &Name, prio: Prio, out: &mut Lines) -> Answer
+    pub fn set_prio(
+        &mut self,
+        t: ThreadNo,
+        k: u16,
+        name: &Name,
+        prio: Prio,
+        out: &mut Lines,
+    ) -> Answer
         requires there { t < length self.old.threads }
         requires ready { length self.old.ready ≤ 256 }
         requires once { (u : ℕ) → length (filter (λ v. v == u) self.old.ready) ≤ 1 }

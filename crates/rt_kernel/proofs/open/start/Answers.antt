@@ -13,5 +13,6 @@ pub loop-t-preserved : goal.loop-t-preserved
 loop-t-preserved c =
     let p : ℕ → Bool = λ t. not (is_initial (row_at c.args.threads.now t).stage) in
     elim c.if-not-is_initial.branch [
-      then-not-is_initial w ↦ w.ready-is ∙ w.push_last.ensures ∙ ap (λ (ts : List ℕ). ts ++ c.loop-t.t ∷ []) c.loop-t.invariant ∙ sym (filter_passes p c.loop-t.t (ap not (sym c.is_initial.ensures ∙ w.if-not-is_initial.true)))
-      | else-not-is_initial w ↦ w.ready-is ∙ c.loop-t.invariant ∙ sym (filter_fails p c.loop-t.t (ap not (sym c.is_initial.ensures ∙ w.if-not-is_initial.false))) ]
+      | then-not-is_initial w ↦ w.ready-is ∙ w.push_last.ensures ∙ ap (λ (ts : List ℕ). ts ++ c.loop-t.t ∷ []) c.loop-t.invariant ∙ sym (filter_passes p c.loop-t.t (ap not (sym c.is_initial.ensures ∙ w.if-not-is_initial.true)))
+      | else-not-is_initial w ↦ w.ready-is ∙ c.loop-t.invariant ∙ sym (filter_fails p c.loop-t.t (ap not (sym c.is_initial.ensures ∙ w.if-not-is_initial.false)))
+    ]

@@ -1,0 +1,139 @@
+ghost use Rattle.std.specs.Prelude.{◌≡◌, ◌<◌, ◌≤◌, ◌∷◌, [], length, slice_get, Some};
+ghost use Rattle.rt_base.specs.declared.codes.Class.{Class as PlainClass};
+ghost use Rattle.rt_plain.specs.State.{is_running};
+ghost use Rattle.rt_plain.specs.Opening.{new_console};
+ghost use Rattle.rt_plain.specs.PowerCalls.{votes_for as plain_votes, sleep_mode};
+ghost use Rattle.rt_plain.specs.Rows.{rows as plain_rows, thread_row, device_row};
+ghost use Rattle.rt_kernel.specs.Shown.{shown};
+ghost use Rattle.rt_kernel.specs.View.{state_of};
+
+use crate::kernel::Kernel;
+use crate::records::Records;
+use crate::rows::Rows;
+use rt_base::{Class, Name, Sleep, ThreadNo};
+use rt_plain::{Row, View};
+
+// The row of the console, which is open from the start and holds nothing.
+fn console_row() -> Row
+    ensures { result ≡ device_row new_console }
+{
+    let Some(name) = Name::read(b"console") else {
+        unreachable!();
+    };
+    Row::Device {
+        name,
+        console: true,
+        opened: 1,
+        rx: 0,
+        tx: 0,
+    }
+}
+
+impl Rows {
+    // How many threads haven't ended.
+    #[tactic(auto, using(crate::proofs::ViewLemmas::shows))]
+    fn shown_count(&self) -> usize
+        ensures count { result ≡ length (shown self.now) }
+        ensures few { result ≤ 256 }
+    {
+        let mut count = 0;
+        for t in 0..self.len() {
+            if !self.is_closed(ThreadNo(t as u16)) {
+                count += 1;
+            }
+        }
+        count
+    }
+
+    // The thread at a place among those that haven't ended, counted from the newest one.
+    #[tactic(auto, using(crate::proofs::ViewLemmas::shows))]
+    fn shown_at(&self, place: usize) -> ThreadNo
+        requires { place < length (shown self.now) }
+        ensures is { slice_get (shown self.now) place ≡ Some result }
+        ensures there { result < length self.now }
+    {
+        let mut newer = place;
+        let mut i = self.len();
+        while i > 0 {
+            i -= 1;
+            let t = ThreadNo(i as u16);
+            if !self.is_closed(t) {
+                if newer == 0 {
+                    return t;
+                }
+                newer -= 1;
+            }
+        }
+        unreachable!()
+    }
+}
+
+impl Records {
+    // Whether the core runs this thread.
+    fn is_running(&self, t: ThreadNo) -> bool
+        ensures { result ≡ is_running (state_of self.now) t }
+    {
+        match self.running {
+            Some(u) => t.0 == u.0,
+            None => false,
+        }
+    }
+
+    // The row of a thread.
+    #[tactic(auto, using(crate::proofs::ViewLemmas::seen))]
+    fn thread_row(&self, t: ThreadNo) -> Row
+        requires { t < length self.now.threads }
+        ensures { result ≡ thread_row (state_of self.now) t }
+    {
+        self.threads.facts();
+        Row::Thread {
+            name: self.threads.name(t),
+            cur: self.threads.base(t),
+            base: self.threads.base(t),
+            state: self.threads.state(t, self.is_running(t)),
+            core: None,
+            left: self.threads.left(t),
+            code: self.threads.code(t),
+        }
+    }
+}
+
+impl View for Kernel {
+    ghost rows = { λ k class. plain_rows k.state class };
+
+    ghost votes_for = { λ k mode. plain_votes k.state.votes mode };
+
+    ghost mode_of = { λ k. sleep_mode k.board k.state };
+
+    /// The number of objects of a class.
+    fn count(&self, class: Class) -> usize {
+        match class {
+            Class::Thread => self.records.threads.shown_count(),
+            Class::Device => 1,
+            _ => 0,
+        }
+    }
+
+    /// The row at a place, counted from the newest object.
+    fn row(&self, class: Class, place: usize) -> Row {
+        match class {
+            Class::Thread => self
+                .records
+                .thread_row(self.records.threads.shown_at(place)),
+            Class::Device => console_row(),
+            _ => unreachable!(),
+        }
+    }
+
+    /// The votes for a mode. None can be given yet.
+    fn votes(&self, mode: Sleep) -> u8 {
+        let _records = &self.records;
+        let _mode = mode;
+        0
+    }
+
+    /// The sleep mode of now.
+    fn mode(&self) -> Sleep {
+        self.board.default_mode
+    }
+}
