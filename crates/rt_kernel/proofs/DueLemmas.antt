@@ -43,3 +43,8 @@ due_more tick i rows d there = subst (λ n. least_due tick (map plain_armed (dro
   more (suc i) (row ∷ rows) lt = more i rows (omega (arith, lt))
 
 pub ruleset dues = (due_more)
+
+-- where no row fires first, none is due
+pub nothing_due : (rows : List (ArmedRow Alarm)) → first_alarm rows ≡ None → rows ≡ []
+nothing_due [] none = refl
+nothing_due (row ∷ rows) none = absurd cc

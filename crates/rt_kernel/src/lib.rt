@@ -13,6 +13,8 @@ mod queue;
 mod records;
 mod rows;
 mod switch;
+#[cfg(test)]
+mod tests;
 mod thread_calls;
 mod ticks;
 mod view;

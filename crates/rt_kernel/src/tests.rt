@@ -1,0 +1,178 @@
+ghost use Rattle.std.specs.Prelude.{◌≡◌};
+
+use crate::answer::{Answer, By};
+use crate::built::is_built;
+use crate::kernel::Kernel;
+use board_text::parse;
+use rt_base::{Class, Code, CoreNo, RunMode, Sleep, Steps, ThreadNo};
+use rt_plain::{Line, Lines, Row, Stmt, ThreadState, View, Woke};
+use std::alloc::Global;
+use std::marker::Brand;
+use std::process::Abort;
+use std::sync::ledger::{Blank, Ledger};
+use std::test::Fail;
+
+// The most urgent thread waits, another one isn't started, and a third one starts it.
+const BOARD: &[u8] =
+    b"board 1\ndefault light\nthread a 5 3 any start\n  print \"x\"\n  delay 1\nthread b 9 1 any init\nthread c 7 2 any start\n  startup b\n";
+
+const CORE: CoreNo = CoreNo(0);
+
+// What is done to a kernel: a step of its core with the answer of the call, if it makes one, or a tick.
+#[derive(Clone, Copy)]
+enum Act {
+    Step(Option<Answer>),
+    Tick,
+}
+
+// What is done, and then who runs, the tick, the next number, and how many lines were shown.
+#[derive(Clone, Copy)]
+struct Stage {
+    act: Act,
+    running: Option<ThreadNo>,
+    tick: u32,
+    numbers: u64,
+    lines: usize,
+}
+
+const fn after(act: Act, running: Option<u16>, tick: u32, numbers: u64, lines: usize) -> Stage {
+    let running = match running {
+        Some(t) => Some(ThreadNo(t)),
+        None => None,
+    };
+    Stage {
+        act,
+        running,
+        tick,
+        numbers,
+        lines,
+    }
+}
+
+// The core switches, where it may, and else does the next statement of its thread.
+fn step<L: Ledger>(
+    rt: &impl Abort,
+    kernel: &mut Kernel,
+    out: &mut Lines,
+    steps: &mut Steps<L>,
+) -> Option<Answer> {
+    kernel.facts();
+    assert!(rt; out.spare() >= 2);
+    if kernel.switch(CORE, out, steps) {
+        return None;
+    }
+    kernel.facts();
+    let thread = kernel.running(CORE)?;
+    kernel.unmark(CORE);
+    kernel.facts();
+    assert!(rt; kernel.running(CORE) == Some(thread));
+    assert!(rt; kernel.numbers() < 100);
+    match kernel.next_statement(thread) {
+        Stmt::Do(call) => Some(kernel.call(By::Thread(thread, CORE), &call, out, steps)),
+        stmt => {
+            kernel.plain(CORE, &stmt, out, steps);
+            None
+        }
+    }
+}
+
+// A tick at which at most one wait ends.
+#[tactic(auto, using(crate::proofs::DueLemmas::nothing_due))]
+fn tick<L: Ledger>(rt: &impl Abort, kernel: &mut Kernel, out: &mut Lines, steps: &mut Steps<L>) {
+    assert!(rt; kernel.take_due(steps).is_none());
+    assert!(rt; kernel.tick() < 100);
+    kernel.begin_tick();
+    assert!(rt; out.spare() >= 2);
+    if let Some(no) = kernel.take_due(steps) {
+        kernel.fire(no, out, steps);
+    }
+}
+
+fn perform<L: Ledger>(
+    rt: &impl Abort,
+    kernel: &mut Kernel,
+    stage: Stage,
+    out: &mut Lines,
+    steps: &mut Steps<L>,
+) {
+    out.clear();
+    match stage.act {
+        Act::Step(answer) => assert!(rt; step(rt, kernel, out, steps) == answer),
+        Act::Tick => tick(rt, kernel, out, steps),
+    }
+    kernel.facts();
+    assert!(rt; kernel.running(CORE) == stage.running);
+    assert_eq!(rt; kernel.tick(), stage.tick);
+    assert_eq!(rt; kernel.numbers(), stage.numbers);
+    assert_eq!(rt; out.len(), stage.lines);
+}
+
+// Whether the table of threads shows this at a place.
+fn shows(kernel: &Kernel, place: usize, name: &[u8], state: ThreadState, left: u8) -> bool {
+    if place >= kernel.count(Class::Thread) {
+        return false;
+    }
+    match kernel.row(Class::Thread, place) {
+        Row::Thread {
+            name: its,
+            cur,
+            base,
+            state: now,
+            core,
+            left: ticks,
+            code,
+        } => {
+            its.bytes() == name
+                && cur == base
+                && now == state
+                && core.is_none()
+                && ticks == left
+                && code == Code::Ok
+        }
+        _ => false,
+    }
+}
+
+fn whole_run<L: Ledger>(rt: &impl Abort, alloc: Global, blank: Blank) -> Result<(), Fail>
+    requires name { blank.name ≡ L.name }
+    requires parts { blank.parts ≡ L.parts }
+    requires one { L.parts ≡ 1 }
+{
+    let mut steps: Steps<L> = Steps::new(blank);
+    let mut out = Lines::new(alloc, 4)?;
+    let board = parse(alloc, BOARD).ok().ok_or("board")?;
+    assert!(rt; is_built(&board));
+    let mut kernel = Kernel::open(alloc, board)?;
+    assert!(rt; kernel.is_quiet() && !kernel.all_idle());
+    assert!(rt; kernel.run_mode() == RunMode::Normal && kernel.mode() == Sleep::Light);
+    assert_eq!(rt; kernel.votes(Sleep::Deep), 0);
+    let begin = [
+        after(Act::Step(None), Some(0), 0, 0, 1),
+        after(Act::Step(None), Some(0), 0, 0, 2),
+        after(Act::Step(Some(Answer::Waits)), None, 0, 2, 1),
+        after(Act::Step(None), Some(2), 0, 2, 1),
+        after(Act::Tick, Some(2), 1, 2, 2),
+    ];
+    for stage in begin {
+        perform(rt, &mut kernel, stage, &mut out, &mut steps);
+    }
+    assert!(rt; shows(&kernel, 0, b"c", ThreadState::Running, 1));
+    assert!(rt; shows(&kernel, 1, b"b", ThreadState::Initial, 1));
+    assert!(rt; shows(&kernel, 2, b"a", ThreadState::Ready, 3));
+    let end = [
+        after(Act::Step(None), Some(0), 1, 2, 2),
+        after(Act::Step(None), None, 1, 2, 2),
+        after(Act::Step(None), Some(2), 1, 2, 1),
+        after(Act::Step(Some(Answer::Code(Code::Ok))), Some(2), 1, 2, 2),
+    ];
+    for stage in end {
+        perform(rt, &mut kernel, stage, &mut out, &mut steps);
+    }
+    assert_eq!(rt; kernel.count(Class::Thread), 2);
+    Ok(())
+}
+
+#[test]
+fn a_kernel_runs_its_threads(rt: HostRuntime) -> Result<(), Fail> {
+    whole_run::<Brand>(&rt, rt.alloc(), Blank::new(1))
+}
