@@ -100,6 +100,7 @@ impl Machine {
     pub fn open(alloc: Global, board: Board) -> Result<Machine, StartFault>
         ensures board { IfOk result (λ m. m.board ≡ board) }
         ensures course { IfOk result (λ m. m.course ≡ opened board) }
+        ensures built { IfOk result (λ m. is_built board ≡ true) }
         ensures later { IsErrOf result StartFault.Later ↔ (is_built board ≡ false) }
     {
         if !is_built(&board) {

@@ -25,6 +25,8 @@ impl Records {
         ensures state { state_of self.new ≡ (own_effect board.now t k call.now (state_of self.old)).state }
         ensures lines { out.new.items ≡ out.old.items ++ (own_effect board.now t k call.now (state_of self.old)).lines }
         ensures answer { plain_answer result ≡ (outcome_of board.now call.now (state_of self.old) (ByThread t 0) First).answer }
+        ensures numbers { self.new.numbers ≤ self.old.numbers + 2 }
+        ensures few { length out.new.items ≤ length out.old.items + 2 }
         ensures out_room { out.new.room ≡ out.old.room }
     {
         let _board = board;
@@ -55,6 +57,8 @@ impl Records {
         ensures state { state_of self.new ≡ (settled_effect board.now (state_of self.old) (next_call board.now t call.now (state_of self.old))).state }
         ensures lines { out.new.items ≡ out.old.items ++ (settled_effect board.now (state_of self.old) (next_call board.now t call.now (state_of self.old))).lines }
         ensures answer { plain_answer result ≡ (outcome_of board.now call.now (begun (state_of self.old) t) (ByThread t 0) First).answer }
+        ensures numbers { self.new.numbers ≤ self.old.numbers + 2 }
+        ensures few { length out.new.items ≤ length out.old.items + 2 }
         ensures out_room { out.new.room ≡ out.old.room }
     {
         let k = self.threads.next(t);

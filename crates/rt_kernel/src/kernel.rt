@@ -197,6 +197,8 @@ impl Kernel {
         ensures answer { result ≡ is_some (switched self.old.state core) }
         ensures state { self.new.state ≡ (effect_or self.old.state (switched self.old.state core)).state }
         ensures lines { out.new.items ≡ out.old.items ++ (effect_or self.old.state (switched self.old.state core)).lines }
+        ensures numbers { self.new.state.numbers ≡ self.old.state.numbers }
+        ensures few { length out.new.items ≤ length out.old.items + 2 }
         ensures out_room { out.new.room ≡ out.old.room }
     {
         facts(&self.board, &self.records);
@@ -245,6 +247,8 @@ impl Kernel {
         ensures board { self.new.board ≡ self.old.board }
         ensures state { (t : ℕ) → running_on self.old.state core ≡ Some t → self.new.state ≡ (statement_effect self.old.board t core self.old.state).state }
         ensures lines { (t : ℕ) → running_on self.old.state core ≡ Some t → out.new.items ≡ out.old.items ++ (statement_effect self.old.board t core self.old.state).lines }
+        ensures numbers { self.new.state.numbers ≡ self.old.state.numbers }
+        ensures few { length out.new.items ≤ length out.old.items + 2 }
         ensures out_room { out.new.room ≡ out.old.room }
     {
         facts(&self.board, &self.records);
@@ -256,7 +260,7 @@ impl Kernel {
     }
 
     /// The call of a thread, which is its next statement, with its line and what follows from it. It answers `Waits`
-    /// exactly where the statement table says so, and else the code. It takes at most 2 numbers, and adds at most 3
+    /// exactly where the statement table says so, and else the code. It takes at most 2 numbers, and adds at most 2
     /// lines. No timer is there yet to make a call.
     pub fn call<L: Ledger>(
         &mut self,
@@ -272,6 +276,8 @@ impl Kernel {
         ensures state { (t core : ℕ) → by ≡ ByThreadOn t core → self.new.state ≡ (statement_effect self.old.board t core self.old.state).state }
         ensures lines { (t core : ℕ) → by ≡ ByThreadOn t core → out.new.items ≡ out.old.items ++ (statement_effect self.old.board t core self.old.state).lines }
         ensures answer { (t core : ℕ) → by ≡ ByThreadOn t core → plain_answer result ≡ (outcome_of self.old.board call.now (begun self.old.state t) (ByThread t core) First).answer }
+        ensures numbers { self.new.state.numbers ≤ self.old.state.numbers + 2 }
+        ensures few { length out.new.items ≤ length out.old.items + 2 }
         ensures out_room { out.new.room ≡ out.old.room }
     {
         facts(&self.board, &self.records);
@@ -328,6 +334,8 @@ impl Kernel {
         ensures board { self.new.board ≡ self.old.board }
         ensures state { self.new.state ≡ (settled_effect self.old.board self.old.state (close_effect thread self.old.state)).state }
         ensures lines { out.new.items ≡ out.old.items ++ (settled_effect self.old.board self.old.state (close_effect thread self.old.state)).lines }
+        ensures numbers { self.new.state.numbers ≡ self.old.state.numbers }
+        ensures few { length out.new.items ≤ length out.old.items + 1 }
         ensures out_room { out.new.room ≡ out.old.room }
     {
         self.records.close(thread, out);

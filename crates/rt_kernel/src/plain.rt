@@ -95,6 +95,8 @@ impl Records {
         requires lines { length out.old.items < out.old.room }
         ensures state { state_of self.new ≡ (plain_effect script.now t stmt.now (state_of self.old)).state }
         ensures lines { out.new.items ≡ out.old.items ++ (plain_effect script.now t stmt.now (state_of self.old)).lines }
+        ensures numbers { self.new.numbers ≡ self.old.numbers }
+        ensures few { length out.new.items ≤ length out.old.items + 2 }
         ensures out_room { out.new.room ≡ out.old.room }
     {
         match stmt {
@@ -122,6 +124,8 @@ impl Records {
         requires lines { length out.old.items + 2 ≤ out.old.room }
         ensures state { state_of self.new ≡ (plain_did script.now t stmt.now (state_of self.old)).state }
         ensures lines { out.new.items ≡ out.old.items ++ (plain_did script.now t stmt.now (state_of self.old)).lines }
+        ensures numbers { self.new.numbers ≡ self.old.numbers }
+        ensures few { length out.new.items ≤ length out.old.items + 2 }
         ensures out_room { out.new.room ≡ out.old.room }
     {
         let k = self.threads.next(t);

@@ -67,6 +67,8 @@ impl Records {
         requires lines { length out.old.items < out.old.room }
         ensures state { state_of self.new ≡ (start_effect t (state_of self.old)).state }
         ensures lines { out.new.items ≡ out.old.items ++ (start_effect t (state_of self.old)).lines }
+        ensures numbers { self.new.numbers ≡ self.old.numbers }
+        ensures few { length out.new.items ≤ length out.old.items + 1 }
         ensures out_room { out.new.room ≡ out.old.room }
     {
         out.push(Line::Wake(self.threads.name(t), Woke::Start));
@@ -80,6 +82,8 @@ impl Records {
         requires lines { length out.old.items < out.old.room }
         ensures state { state_of self.new ≡ (wake_effect code t (state_of self.old)).state }
         ensures lines { out.new.items ≡ out.old.items ++ (wake_effect code t (state_of self.old)).lines }
+        ensures numbers { self.new.numbers ≡ self.old.numbers }
+        ensures few { length out.new.items ≤ length out.old.items + 1 }
         ensures out_room { out.new.room ≡ out.old.room }
     {
         out.push(Line::Wake(self.threads.name(t), Woke::Code(code)));
@@ -135,6 +139,8 @@ impl Records {
         requires lines { length out.old.items < out.old.room }
         ensures state { state_of self.new ≡ (close_effect t (state_of self.old)).state }
         ensures lines { out.new.items ≡ out.old.items ++ (close_effect t (state_of self.old)).lines }
+        ensures numbers { self.new.numbers ≡ self.old.numbers }
+        ensures few { length out.new.items ≤ length out.old.items + 1 }
         ensures out_room { out.new.room ≡ out.old.room }
     {
         out.push(Line::Close(self.threads.name(t)));

@@ -93,6 +93,8 @@ impl Records {
         requires lines { length out.old.items < out.old.room }
         ensures state { state_of self.new ≡ (run_effect (state_of self.old) 0 p).state }
         ensures lines { out.new.items ≡ out.old.items ++ (run_effect (state_of self.old) 0 p).lines }
+        ensures numbers { self.new.numbers ≡ self.old.numbers }
+        ensures few { length out.new.items ≤ length out.old.items + 1 }
         ensures out_room { out.new.room ≡ out.old.room }
     {
         out.push(Line::Run(self.threads.name(p)));
@@ -107,6 +109,8 @@ impl Records {
         requires lines { length out.old.items + 2 ≤ out.old.room }
         ensures state { state_of self.new ≡ (preempt_effect (state_of self.old) 0 r p).state }
         ensures lines { out.new.items ≡ out.old.items ++ (preempt_effect (state_of self.old) 0 r p).lines }
+        ensures numbers { self.new.numbers ≡ self.old.numbers }
+        ensures few { length out.new.items ≤ length out.old.items + 2 }
         ensures out_room { out.new.room ≡ out.old.room }
     {
         out.push(Line::Out(self.threads.name(r), !self.threads.is_marked(r)));
@@ -124,6 +128,8 @@ impl Records {
         ensures answer { result ≡ is_some (switched (state_of self.old) 0) }
         ensures state { state_of self.new ≡ (effect_or (state_of self.old) (switched (state_of self.old) 0)).state }
         ensures lines { out.new.items ≡ out.old.items ++ (effect_or (state_of self.old) (switched (state_of self.old) 0)).lines }
+        ensures numbers { self.new.numbers ≡ self.old.numbers }
+        ensures few { length out.new.items ≤ length out.old.items + 2 }
         ensures out_room { out.new.room ≡ out.old.room }
     {
         let Some(p) = self.pick() else {

@@ -47,6 +47,8 @@ impl Records {
         ensures state { state_of self.new ≡ (called (state_of self.old) t k (refusal (state_of self.old) code)).state }
         ensures lines { out.new.items ≡ out.old.items ++ (called (state_of self.old) t k (refusal (state_of self.old) code)).lines }
         ensures answer { plain_answer result ≡ (refusal (state_of self.old) code).answer }
+        ensures numbers { self.new.numbers ≡ self.old.numbers }
+        ensures few { length out.new.items ≤ length out.old.items + 1 }
         ensures out_room { out.new.room ≡ out.old.room }
     {
         self.show_done(t, k, Some(code), out);
@@ -63,6 +65,8 @@ impl Records {
         ensures state { state_of self.new ≡ (called (state_of self.old) t k (delay ticks (state_of self.old) (ByThread t 0))).state }
         ensures lines { out.new.items ≡ out.old.items ++ (called (state_of self.old) t k (delay ticks (state_of self.old) (ByThread t 0))).lines }
         ensures answer { plain_answer result ≡ (delay ticks (state_of self.old) (ByThread t 0)).answer }
+        ensures numbers { self.new.numbers ≤ self.old.numbers + 2 }
+        ensures few { length out.new.items ≤ length out.old.items + 1 }
         ensures out_room { out.new.room ≡ out.old.room }
     {
         if self.may_not_wait(t) {
@@ -81,6 +85,8 @@ impl Records {
         ensures state { state_of self.new ≡ (called (state_of self.old) t k (yield_call (state_of self.old) (ByThread t 0))).state }
         ensures lines { out.new.items ≡ out.old.items ++ (called (state_of self.old) t k (yield_call (state_of self.old) (ByThread t 0))).lines }
         ensures answer { plain_answer result ≡ (yield_call (state_of self.old) (ByThread t 0)).answer }
+        ensures numbers { self.new.numbers ≡ self.old.numbers }
+        ensures few { length out.new.items ≤ length out.old.items + 1 }
         ensures out_room { out.new.room ≡ out.old.room }
     {
         self.show_done(t, k, Some(Code::Ok), out);
@@ -97,6 +103,8 @@ impl Records {
         ensures state { state_of self.new ≡ (called (state_of self.old) t k (startup name.now (state_of self.old))).state }
         ensures lines { out.new.items ≡ out.old.items ++ (called (state_of self.old) t k (startup name.now (state_of self.old))).lines }
         ensures answer { plain_answer result ≡ (startup name.now (state_of self.old)).answer }
+        ensures numbers { self.new.numbers ≡ self.old.numbers }
+        ensures few { length out.new.items ≤ length out.old.items + 2 }
         ensures out_room { out.new.room ≡ out.old.room }
     {
         let Some(u) = self.find_thread(name) else {
@@ -130,6 +138,8 @@ impl Records {
         ensures state { state_of self.new ≡ (called (state_of self.old) t k (suspend_call name.now (state_of self.old) (ByThread t 0))).state }
         ensures lines { out.new.items ≡ out.old.items ++ (called (state_of self.old) t k (suspend_call name.now (state_of self.old) (ByThread t 0))).lines }
         ensures answer { plain_answer result ≡ (suspend_call name.now (state_of self.old) (ByThread t 0)).answer }
+        ensures numbers { self.new.numbers ≡ self.old.numbers }
+        ensures few { length out.new.items ≤ length out.old.items + 2 }
         ensures out_room { out.new.room ≡ out.old.room }
     {
         let Some(u) = self.find_thread(name) else {
@@ -152,6 +162,8 @@ impl Records {
         ensures state { state_of self.new ≡ (called (state_of self.old) t k (resume name.now (state_of self.old))).state }
         ensures lines { out.new.items ≡ out.old.items ++ (called (state_of self.old) t k (resume name.now (state_of self.old))).lines }
         ensures answer { plain_answer result ≡ (resume name.now (state_of self.old)).answer }
+        ensures numbers { self.new.numbers ≡ self.old.numbers }
+        ensures few { length out.new.items ≤ length out.old.items + 2 }
         ensures out_room { out.new.room ≡ out.old.room }
     {
         let Some(u) = self.find_thread(name) else {
@@ -178,6 +190,8 @@ impl Records {
         ensures state { state_of self.new ≡ (called (state_of self.old) t k (kill name.now (state_of self.old))).state }
         ensures lines { out.new.items ≡ out.old.items ++ (called (state_of self.old) t k (kill name.now (state_of self.old))).lines }
         ensures answer { plain_answer result ≡ (kill name.now (state_of self.old)).answer }
+        ensures numbers { self.new.numbers ≡ self.old.numbers }
+        ensures few { length out.new.items ≤ length out.old.items + 2 }
         ensures out_room { out.new.room ≡ out.old.room }
     {
         let Some(u) = self.find_thread(name) else {
@@ -196,6 +210,8 @@ impl Records {
         ensures state { state_of self.new ≡ (called (state_of self.old) t k (sched_lock (state_of self.old) (ByThread t 0))).state }
         ensures lines { out.new.items ≡ out.old.items ++ (called (state_of self.old) t k (sched_lock (state_of self.old) (ByThread t 0))).lines }
         ensures answer { plain_answer result ≡ (sched_lock (state_of self.old) (ByThread t 0)).answer }
+        ensures numbers { self.new.numbers ≡ self.old.numbers }
+        ensures few { length out.new.items ≤ length out.old.items + 1 }
         ensures out_room { out.new.room ≡ out.old.room }
     {
         let locks = self.threads.locks(t);
@@ -215,6 +231,8 @@ impl Records {
         ensures state { state_of self.new ≡ (called (state_of self.old) t k (sched_unlock (state_of self.old) (ByThread t 0))).state }
         ensures lines { out.new.items ≡ out.old.items ++ (called (state_of self.old) t k (sched_unlock (state_of self.old) (ByThread t 0))).lines }
         ensures answer { plain_answer result ≡ (sched_unlock (state_of self.old) (ByThread t 0)).answer }
+        ensures numbers { self.new.numbers ≡ self.old.numbers }
+        ensures few { length out.new.items ≤ length out.old.items + 1 }
         ensures out_room { out.new.room ≡ out.old.room }
     {
         let locks = self.threads.locks(t);
@@ -244,6 +262,8 @@ impl Records {
         ensures state { state_of self.new ≡ (prio_called (state_of self.old) t k name.now prio).state }
         ensures lines { out.new.items ≡ out.old.items ++ (prio_called (state_of self.old) t k name.now prio).lines }
         ensures answer { plain_answer result ≡ (set_prio name.now prio (state_of self.old)).answer }
+        ensures numbers { self.new.numbers ≡ self.old.numbers }
+        ensures few { length out.new.items ≤ length out.old.items + 2 }
         ensures out_room { out.new.room ≡ out.old.room }
     {
         let Some(u) = self.find_thread(name) else {

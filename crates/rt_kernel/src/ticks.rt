@@ -41,6 +41,7 @@ impl Records {
         requires lines { length out.old.items + 2 ≤ out.old.room }
         ensures state { state_of self.new ≡ (timeout_effect t (state_of self.old)).state }
         ensures lines { out.new.items ≡ out.old.items ++ (timeout_effect t (state_of self.old)).lines }
+        ensures numbers { self.new.numbers ≡ self.old.numbers }
         ensures out_room { out.new.room ≡ out.old.room }
     {
         let code = self.threads.timeout_code(t);
