@@ -1,0 +1,150 @@
+-- Reach, thread by thread: a thread is in the reach of another one exactly where its chain meets that one.
+use Rattle.std.proofs.Common.{ℕ, ◌≡◌, ◌≢◌, ◌+◌, ◌<◌, ◌≤◌, zero, suc, List, [], ◌∷◌, length, map, Bool, true, false, cond, ◌||◌, eqb, Option, Some, None, refl, sym, ap, ◌∙◌, arith}
+use Rattle.std.specs.Prelude.{filter, fold, min}
+use Rattle.std.specs.List.{range_with_len}
+use Rattle.std.proofs.lemmas.Bool.{eqb-true, eqb-false, ne_eqb, eq-eqb}
+use Rattle.std.proofs.lemmas.List.Elements.{filter_agree}
+use Rattle.rt_plain.specs.State.{is_among}
+use Rattle.rt_plain.specs.Priority.{Graph, blocker_of, is_one_of, round_of, rounds_of, reach}
+use Rattle.mutex_chain.specs.Walks.{meets_on, meets}
+
+abbrev hits_on : (ℕ → Bool) → Option ℕ → Bool
+hits_on further None = false
+hits_on further (Some t) = further t
+
+-- whether a thread is a member, or its chain meets one within so many steps
+abbrev hits : ℕ → (ℕ → Option ℕ) → List ℕ → ℕ → Bool
+hits zero next ms x = is_among ms x
+hits (suc k) next ms x = is_among ms x || hits_on (λ v. hits k next ms v) (next x)
+
+-- equal tests keep the same numbers of a range
+pub filter_range : (p q : ℕ → Bool) (a n : ℕ) → ((x : ℕ) → a ≤ x → x < a + n → p x ≡ q x) → filter p (range_with_len a n) ≡ filter q (range_with_len a n)
+filter_range p q a zero e = refl
+filter_range p q a (suc n) e =
+    ap (λ b. cond b (a ∷ filter p (range_with_len (a + 1) n)) (filter p (range_with_len (a + 1) n))) (e a (omega arith) (omega arith))
+    ∙ ap (λ l. cond (q a) (a ∷ l) l) (filter_range p q (a + 1) n (λ x low high. e x (omega arith) (omega arith)))
+
+not_among : (p : ℕ → Bool) (a n x : ℕ) → x < a → is_among (filter p (range_with_len a n)) x ≡ false
+not_among p a zero x h = refl
+not_among p a (suc n) x h = by_test (p a) (not_among p (a + 1) n x (omega arith)) (ne_eqb a x (λ e. omega arith))
+  where
+    by_test : (b : Bool) → is_among (filter p (range_with_len (a + 1) n)) x ≡ false → eqb a x ≡ false
+        → is_among (cond b (a ∷ filter p (range_with_len (a + 1) n)) (filter p (range_with_len (a + 1) n))) x ≡ false
+    by_test true r ne = ap (λ c. c || is_among (filter p (range_with_len (a + 1) n)) x) ne ∙ r
+    by_test false r ne = r
+
+-- the numbers of a range that pass a test
+among_range : (p : ℕ → Bool) (a n x : ℕ) → a ≤ x → x < a + n → is_among (filter p (range_with_len a n)) x ≡ p x
+among_range p a zero x low high = absurd (omega arith)
+among_range p a (suc n) x low high =
+    by_test (eqb a x) refl (p a) refl (λ k. among_range p (a + 1) n x k (omega arith)) (not_among p (a + 1) n x)
+  where
+    rest : List ℕ
+    rest = filter p (range_with_len (a + 1) n)
+
+    by_test : (b : Bool) → eqb a x ≡ b → (c : Bool) → p a ≡ c → (a + 1 ≤ x → is_among (filter p (range_with_len (a + 1) n)) x ≡ p x)
+        → (x < a + 1 → is_among (filter p (range_with_len (a + 1) n)) x ≡ false)
+        → is_among (cond c (a ∷ filter p (range_with_len (a + 1) n)) (filter p (range_with_len (a + 1) n))) x ≡ p x
+    by_test true e true h r none =
+        let same : a ≡ x = eqb-true a x e in
+        ap (λ c. c || is_among (filter p (range_with_len (a + 1) n)) x) e ∙ sym h ∙ ap p same
+    by_test true e false h r none =
+        let same : a ≡ x = eqb-true a x e in
+        none (omega arith) ∙ sym h ∙ ap p same
+    by_test false e true h r none =
+        let other : a ≢ x = eqb-false a x e in
+        ap (λ c. c || is_among (filter p (range_with_len (a + 1) n)) x) e ∙ r (omega arith)
+    by_test false e false h r none =
+        let other : a ≢ x = eqb-false a x e in
+        r (omega arith)
+
+-- no chain leaves the numbers of a graph
+abbrev pub IsClosed : Graph → Type 0
+IsClosed g = (x b : ℕ) → blocker_of g x ≡ Some b → b < length g.blockers
+
+one_hit : (ms : List ℕ) (o : Option ℕ) → is_one_of ms o ≡ hits_on (is_among ms) o
+one_hit ms None = refl
+one_hit ms (Some t) = refl
+
+or_same : (p a r s : Bool) → (a || r ≡ s) → (p || a) || r ≡ p || s
+or_same true a r s e = refl
+or_same false a r s e = e
+
+absorbed : (a r : Bool) → a || (a || r) ≡ a || r
+absorbed true r = refl
+absorbed false r = refl
+
+hits_first : (k : ℕ) (next : ℕ → Option ℕ) (ms : List ℕ) (x : ℕ) → is_among ms x || hits k next ms x ≡ hits k next ms x
+hits_first zero next ms x = by_test (is_among ms x)
+  where
+    by_test : (b : Bool) → b || b ≡ b
+    by_test true = refl
+    by_test false = refl
+hits_first (suc k) next ms x = absorbed (is_among ms x) (hits_on (λ v. hits k next ms v) (next x))
+
+-- one round more at the start is one step more
+hits_round : (k : ℕ) (g : Graph) (ms : List ℕ) (x : ℕ) → IsClosed g → x < length g.blockers
+    → hits k (blocker_of g) (round_of g ms) x ≡ hits (suc k) (blocker_of g) ms x
+hits_round zero g ms x closed h =
+    among_range (λ t. is_among ms t || is_one_of ms (blocker_of g t)) 0 (length g.blockers) x (omega arith) (omega arith)
+    ∙ ap (λ b. is_among ms x || b) (one_hit ms (blocker_of g x))
+hits_round (suc k) g ms x closed h =
+    ap (λ b. b || hits_on (λ v. hits k (blocker_of g) (round_of g ms) v) (blocker_of g x))
+    (among_range (λ t. is_among ms t || is_one_of ms (blocker_of g t)) 0 (length g.blockers) x (omega arith) (omega arith))
+    ∙ or_same (is_among ms x) (is_one_of ms (blocker_of g x)) (hits_on (λ v. hits k (blocker_of g) (round_of g ms) v) (blocker_of g x)) (hits_on (λ v. hits (suc k) (blocker_of g) ms v) (blocker_of g x))
+    (by_next (blocker_of g x) refl (λ v k'. hits_round k g ms v closed k'))
+  where
+    by_next : (o : Option ℕ) → blocker_of g x ≡ o
+        → ((v : ℕ) → v < length g.blockers → hits k (blocker_of g) (round_of g ms) v ≡ hits (suc k) (blocker_of g) ms v)
+        → is_one_of ms o || hits_on (λ v. hits k (blocker_of g) (round_of g ms) v) o ≡ hits_on (λ v. hits (suc k) (blocker_of g) ms v) o
+    by_next None e r = refl
+    by_next (Some v) e r = ap (λ b. is_among ms v || b) (r v (closed x v e)) ∙ hits_first (suc k) (blocker_of g) ms v
+
+rounds_filter : (k : ℕ) (g : Graph) (ms : List ℕ) → IsClosed g
+    → rounds_of (suc k) g ms ≡ filter (λ x. hits (suc k) (blocker_of g) ms x) (range_with_len 0 (length g.blockers))
+rounds_filter zero g ms closed =
+    filter_agree (λ t. is_among ms t || is_one_of ms (blocker_of g t)) (λ x. hits 1 (blocker_of g) ms x)
+    (λ x. ap (λ b. is_among ms x || b) (one_hit ms (blocker_of g x))) (range_with_len 0 (length g.blockers))
+rounds_filter (suc k) g ms closed =
+    rounds_filter k g (round_of g ms) closed
+    ∙ filter_range (λ x. hits (suc k) (blocker_of g) (round_of g ms) x) (λ x. hits (suc (suc k)) (blocker_of g) ms x) 0 (length g.blockers)
+    (λ x low high. hits_round (suc k) g ms x closed (omega arith))
+
+hits_meets : (k : ℕ) (next : ℕ → Option ℕ) (t x : ℕ) → hits k next (t ∷ []) x ≡ eqb t x || meets k next x t
+hits_meets zero next t x = refl
+hits_meets (suc k) next t x = by_next (next x) (eqb t x) (λ v. hits_meets k next t v)
+  where
+    by_next : (o : Option ℕ) (a : Bool) → ((v : ℕ) → hits k next (t ∷ []) v ≡ eqb t v || meets k next v t)
+        → (a || false) || hits_on (λ v. hits k next (t ∷ []) v) o ≡ a || meets_on (λ v. meets k next v t) t o
+    by_next None true r = refl
+    by_next None false r = refl
+    by_next (Some v) true r = refl
+    by_next (Some v) false r = r v
+
+-- the reach of a thread: itself, and each one whose chain meets it
+pub reach_is : (g : Graph) (t : ℕ) → IsClosed g → t < length g.blockers
+    → reach g t ≡ filter (λ x. eqb t x || meets (length g.blockers) (blocker_of g) x t) (range_with_len 0 (length g.blockers))
+reach_is g t closed h = by_length (length g.blockers) refl
+  where
+    by_length : (n : ℕ) → length g.blockers ≡ n → rounds_of n g (t ∷ []) ≡ filter (λ x. eqb t x || meets n (blocker_of g) x t) (range_with_len 0 (length g.blockers))
+    by_length zero e = absurd (omega arith)
+    by_length (suc n) e =
+        rounds_filter n g (t ∷ []) closed
+        ∙ filter_agree (λ x. hits (suc n) (blocker_of g) (t ∷ []) x) (λ x. eqb t x || meets (suc n) (blocker_of g) x t) (λ x. hits_meets (suc n) (blocker_of g) t x) (range_with_len 0 (length g.blockers))
+
+-- a thread itself changes nothing at a number that isn't above its urgency
+pub self_skip : (urgency : ℕ → ℕ) (t : ℕ) (m : ℕ → Bool) (xs : List ℕ) (a : ℕ) → a ≤ urgency t
+    → fold min a (map urgency (filter (λ x. eqb t x || m x) xs)) ≡ fold min a (map urgency (filter m xs))
+self_skip urgency t m [] a h = refl
+self_skip urgency t m (x ∷ xs) a h = by_tests (eqb t x) refl (m x) (λ b k. self_skip urgency t m xs b k)
+  where
+    by_tests : (c : Bool) → eqb t x ≡ c → (d : Bool) → ((b : ℕ) → b ≤ urgency t → fold min b (map urgency (filter (λ x. eqb t x || m x) xs)) ≡ fold min b (map urgency (filter m xs)))
+        → fold min a (map urgency (cond (c || d) (x ∷ filter (λ x. eqb t x || m x) xs) (filter (λ x. eqb t x || m x) xs)))
+        ≡ fold min a (map urgency (cond d (x ∷ filter m xs) (filter m xs)))
+    by_tests true e true r = r (min a (urgency x)) (omega arith)
+    by_tests true e false r =
+        let same : urgency x ≡ urgency t = ap urgency (sym (eqb-true t x e)) in
+        let less : min a (urgency x) ≡ a = omega arith in
+        ap (λ b. fold min b (map urgency (filter (λ x. eqb t x || m x) xs))) less ∙ r a h
+    by_tests false e true r = r (min a (urgency x)) (omega arith)
+    by_tests false e false r = r a h

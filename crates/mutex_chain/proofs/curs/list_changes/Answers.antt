@@ -1,0 +1,26 @@
+use Rattle.std.proofs.Common.{rules, arith, ◌≡◌, ◌+◌, ◌-◌, ◌<◌, ◌++◌, ◌∷◌, [], Some, None, ◌∙◌, sym, ap, length, refl, append_assoc}
+use Rattle.std.proofs.lemmas.Grind.{common_steps}
+use Rattle.std.proofs.lemmas.List.{length_push}
+use Rattle.std.specs.List.{filter_map, range_with_len}
+use Rattle.mutex_chain.specs.Graph.{listed_at, ChangeList}
+use Rattle.mutex_chain.proofs.ChangeLemmas.{list_some, list_none}
+use Rattle.mutex_chain.proofs.curs.list_changes.Goals as goal
+use Rattle.mutex_chain.proofs.curs.list_changes.Goals.{in-Some, in_default}
+
+pub loop-t-preserved : goal.loop-t-preserved
+loop-t-preserved c =
+    let n = length c.args.owners.now.members in
+    let f = listed_at c.args.owners.now c.args.olds.now c.args.news.now in
+    let small : c.loop-t.t < length c.args.owners.now.members = omega (arith, c.loop-t-test.true, c.threads-t-end.ensures.count) in
+    elim c.match-change_of.branch [
+      | in-Some w ↦ rw (w.out-is, w.push.ensures) (
+        c.loop-t.invariant.0,
+        omega (arith, length_push c.loop-t.out.changes w.in-Some.change, c.loop-t.invariant.1),
+        list_some f c.loop-t.out.changes _ n c.loop-t.t w.in-Some.change small (sym c.change_of.ensures ∙ w.in-Some.is) c.loop-t.invariant.2,
+      )
+      | in_default w ↦ rw w.out-is (
+        c.loop-t.invariant.0,
+        omega (arith, c.loop-t.invariant.1),
+        list_none f c.loop-t.out.changes _ n c.loop-t.t small (sym c.change_of.ensures ∙ w.in_default.is) c.loop-t.invariant.2,
+      )
+    ]

@@ -1,0 +1,71 @@
+-- What the calls of the graph answer, and the lists that they fill.
+use Rattle.std.specs.Prelude.{ℕ, ◌≡◌, ◌≢◌, ◌-◌, Bool, true, false, not, ◌&&◌, min, List, length, Option, Some, None, IsTrue, nat_lt, slice_index, if◌then◌else◌, ◌==◌}
+use Rattle.std.specs.Option.{option_map}
+use Rattle.rt_base.specs.declared.codes.WaitOrder.{WaitOrder}
+use Rattle.rt_plain.specs.Waiting.{Waiter, stands_before}
+use Rattle.rt_plain.specs.Ownership.{Ownership, Taken, MutexWait, CurChange}
+use Rattle.mutex_chain.specs.declared.answers.Took.{Took}
+use Rattle.mutex_chain.specs.declared.answers.Released.{Released}
+use Rattle.mutex_chain.specs.Owners.{has_thread}
+
+-- a list of changes, and for how many threads it has room
+pub record ChangeList : Type 0 where
+  pub threads : ℕ
+  pub changes : List CurChange
+
+-- a list of threads, and for how many it has room
+pub record WokenList : Type 0 where
+  pub threads : ℕ
+  pub woken : List ℕ
+
+-- a list of mutexes with threads, and for how many threads it has room
+pub record PassList : Type 0 where
+  pub threads : ℕ
+  pub passes : List (ℕ × ℕ)
+
+-- the answer of `take` of a thread, by who owns the mutex
+abbrev pub took_of : ℕ → Option Taken → Took
+took_of t None = Took.Free
+took_of t (Some h) = if h.owner == t then (if nat_lt h.hold 255 then Took.Again else Took.HoldFull) else Took.Owned h.owner
+
+abbrev pub passed_of : Option ℕ → Released
+passed_of None = Released.Free
+passed_of (Some t) = Released.Passed t
+
+-- the answer of `release` of a thread, by who owns the mutex and its first waiter
+abbrev pub released_of : ℕ → Option Taken → Option ℕ → Released
+released_of t None first = Released.NotOwner None
+released_of t (Some h) first = if h.owner == t then (if nat_lt 1 h.hold then Released.Held (h.hold - 1) else passed_of first) else Released.NotOwner (Some h.owner)
+
+-- another thread owns the mutex
+abbrev pub IsOther : ℕ → Option ℕ → Type 0
+IsOther t None = ⊥
+IsOther t (Some owner) = owner ≢ t
+
+-- how often a mutex was taken
+abbrev pub hold_of : Option Taken → ℕ
+hold_of None = 0
+hold_of (Some h) = h.hold
+
+-- after an edit there are as many places, and nobody who wasn't there before
+pub record Keeps (before after : Ownership) : Type 0 where
+  pub size : length before.members ≡ length after.members
+  pub there : (t : ℕ) → has_thread after t ≡ true → has_thread before t ≡ true
+
+-- a thread in a mutex's wait list, with this priority, where it waits there
+abbrev pub waiter_with : ℕ → ℕ → ℕ → Option MutexWait → Option Waiter
+waiter_with prio mutex t None = None
+waiter_with prio mutex t (Some w) = if w.mutex == mutex then Some (record { thread = t; prio = prio; number = w.number }) else None
+
+-- the change of a thread that is there, where two numbers differ
+abbrev pub changed_at : Ownership → ℕ → ℕ → ℕ → Option CurChange
+changed_at o t old new = if has_thread o t && not (old == new) then Some (record { thread = t; old = min old 255; new = min new 255 }) else None
+
+-- the change of a thread by two lists of numbers
+abbrev pub listed_at : Ownership → List ℕ → List ℕ → ℕ → Option CurChange
+listed_at o olds news t = changed_at o t (slice_index olds t) (slice_index news t)
+
+-- a waiter, or another one that it doesn't stand before
+abbrev pub sooner_of : Waiter → Option Waiter → Waiter
+sooner_of w None = w
+sooner_of w (Some v) = if stands_before WaitOrder.Prio w v then w else v

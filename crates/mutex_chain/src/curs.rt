@@ -1,0 +1,133 @@
+ghost use Rattle.std.specs.Prelude.{ℕ, ◌≡◌, ◌<◌, ◌≤◌, length, min, IfSome};
+ghost use Rattle.std.specs.List.{filter_map, range_with_len};
+ghost use Rattle.rt_plain.specs.Ownership.{Ownership, member_urgency, changes, first_in};
+ghost use Rattle.mutex_chain.specs.Graph.{Keeps, changed_at, listed_at};
+ghost use Rattle.mutex_chain.specs.Owners.{IsSound, blocker_in};
+ghost use Rattle.mutex_chain.specs.Walks.{carried, urgencies_of, curs_of};
+
+use crate::changes::{Change, Changes};
+use crate::owners::Owners;
+use crate::waiter::Waiter;
+use rt_base::{ObjNo, Prio, ThreadNo};
+use std::mem::swap;
+
+// Computes the current priorities of all threads anew. A thread that isn't there has 256.
+pub fn compute(owners: &Owners, numbers: &mut Vec<u16>)
+    requires { length numbers.old.items ≡ length owners.now.members }
+    ensures sound { IsSound owners.now }
+    ensures curs { numbers.new.items ≡ curs_of owners.now }
+    ensures places { length numbers.new.items ≡ length owners.now.members }
+{
+    begin(owners, numbers);
+    for t in 0..owners.threads() {
+        carry(owners, ThreadNo(t), numbers);
+    }
+}
+
+// Gives each thread its own urgency.
+fn begin(owners: &Owners, numbers: &mut Vec<u16>)
+    requires { length numbers.old.items ≡ length owners.now.members }
+    ensures { numbers.new.items ≡ urgencies_of owners.now }
+{
+    for t in 0..owners.threads() {
+        numbers[t as usize] = owners.urgency(ThreadNo(t));
+    }
+}
+
+// Carries the urgency of a thread along its chain of owners, as many steps as there are threads.
+fn carry(owners: &Owners, from: ThreadNo, numbers: &mut Vec<u16>)
+    requires from { from < length owners.now.members }
+    requires numbers { length numbers.old.items ≡ length owners.now.members }
+    ensures { numbers.new.items ≡ carried (length owners.now.members) (blocker_in owners.now)
+        (member_urgency owners.now from) from numbers.old.items }
+{
+    let urgency = owners.urgency(from);
+    let mut at = from;
+    for _ in 0..owners.threads() {
+        let Some(owner) = owners.blocker(at) else {
+            return;
+        };
+        let place = owner.0 as usize;
+        numbers[place] = numbers[place].min(urgency);
+        at = owner;
+    }
+}
+
+// Computes the current priorities anew, and lists those that are not what they were.
+pub fn renew(owners: &Owners, curs: &mut Vec<u16>, before: &mut Vec<u16>, out: &mut Changes)
+    requires curs { length curs.old.items ≡ length owners.now.members }
+    requires before { length before.old.items ≡ length owners.now.members }
+    requires room { length owners.now.members ≤ out.old.threads }
+    ensures sound { IsSound owners.now }
+    ensures curs { curs.new.items ≡ curs_of owners.now }
+    ensures places { length curs.new.items ≡ length owners.now.members }
+    ensures before { length before.new.items ≡ length owners.now.members }
+    ensures changes { (o : Ownership) → IsSound o → curs.old.items ≡ curs_of o → Keeps o owners.now →
+        out.new ≡ record out.old { changes = changes o owners.now } }
+{
+    swap(curs, before);
+    compute(owners, curs);
+    list_changes(owners, before, curs, out);
+}
+
+// Lists the threads that are there and whose numbers differ.
+fn list_changes(owners: &Owners, olds: &[u16], news: &[u16], out: &mut Changes)
+    requires olds { length olds.now ≡ length owners.now.members }
+    requires news { length news.now ≡ length owners.now.members }
+    requires room { length owners.now.members ≤ out.old.threads }
+    ensures sound { IsSound owners.now }
+    ensures changes { out.new ≡ record out.old {
+      changes =
+          filter_map (listed_at owners.now olds.now news.now) (range_with_len 0 (length owners.now.members));
+    } }
+{
+    out.clear();
+    for t in 0..owners.threads() {
+        let place = t as usize;
+        if let Some(change) = change_of(owners, ThreadNo(t), olds[place], news[place]) {
+            out.push(change);
+        }
+    }
+}
+
+// The change of a thread that is there, where its two numbers differ.
+fn change_of(owners: &Owners, thread: ThreadNo, old: u16, new: u16) -> Option<Change>
+    requires { thread < length owners.now.members }
+    ensures { result ≡ changed_at owners.now thread old new }
+{
+    if !owners.has(thread) || old == new {
+        return None;
+    }
+    Some(Change {
+        thread,
+        old: number(old),
+        new: number(new),
+    })
+}
+
+// A number as a priority. That of a thread which is there fits.
+pub fn number(cur: u16) -> Prio
+    ensures { result ≡ min cur 255 }
+{
+    Prio(cur.min(255) as u8)
+}
+
+// The first waiter of a mutex, by these current priorities. Later threads are looked at first, since of
+// equal ones the lower number stands first.
+pub fn first_waiter(owners: &Owners, curs: &[u16], mutex: ObjNo) -> Option<ThreadNo>
+    requires { curs.now ≡ curs_of owners.now }
+    ensures first { result ≡ first_in owners.now mutex }
+    ensures within { IfSome result (λ t. t < length owners.now.members) }
+{
+    let mut first: Option<Waiter> = None;
+    let mut t = owners.threads();
+    while t > 0 {
+        t -= 1;
+        let thread = ThreadNo(t);
+        if let Some(waiter) = owners.waiter(thread, mutex, curs[t as usize]) {
+            first = Some(waiter.sooner_of(first));
+        }
+    }
+    let waiter = first?;
+    Some(waiter.thread)
+}

@@ -1,0 +1,260 @@
+ghost use Rattle.std.specs.Prelude.{◌≡◌, ◌≢◌, ◌<◌, ◌≤◌, [], None, Some, false, length, replicate, slice_set, IfOk, IfSome, IsTrue};
+ghost use Rattle.std.specs.Option.{option_map};
+ghost use Rattle.rt_plain.specs.Ownership.{awaited_in, base_edit, ceiling_edit, changes, cur_in, first_in, leave_edit, owner_in, release_edit, take_edit, taken_of, wait_edit, with_member};
+ghost use Rattle.mutex_chain.specs.Graph.{IsOther, took_of, released_of, hold_of};
+ghost use Rattle.mutex_chain.specs.Owners.{has_thread, has_mutex, ceiling_at};
+
+use crate::answers::{Released, Took};
+use crate::changes::Changes;
+use crate::curs::{compute, first_waiter, number, renew};
+use crate::owners::Owners;
+use crate::rows::{MemberRow, WaitRow};
+use rt_base::{ObjNo, Prio, Steps, ThreadNo};
+use std::alloc::{AllocError, Global};
+use std::marker::Model;
+use std::sync::ledger::Ledger;
+
+/// The threads and the mutexes: who owns which mutex and how often it was taken, who waits on which,
+/// and so how urgent each thread is now. As RT-Thread's priority inheritance has it, a thread is as
+/// urgent as the most urgent among itself, the mutexes that it owns by their ceilings, and all threads
+/// that wait for it, directly or through others; threads that wait for each other in a circle included.
+///
+/// Contracts see the threads with their bases and waits, the ceilings of the mutexes, and who owns
+/// what, the last got first. A thread or a mutex is there from `add_thread` or `add_mutex` until
+/// `kill_thread` or `kill_mutex`. Each edit lists the threads that were there before and are there
+/// after it and whose current priority it changed, in thread order, with both numbers; what the list
+/// held before is dropped. It has to have been made for at least as many threads as the graph.
+///
+/// Only `new` takes memory. `steps` counts reads of rows; how many is not said yet.
+#[derive(Drop)]
+pub struct MutexGraph {
+    owners: Owners,
+    curs: Vec<u16>,
+    before: Vec<u16>,
+}
+
+impl Model for MutexGraph {
+    ghost use Rattle.rt_plain.specs.Ownership.{Ownership};
+    ghost use Rattle.mutex_chain.specs.Walks.{IsCurrent};
+
+    ghost Value = { Ownership };
+
+    ghost view = { λ g. g.owners };
+
+    ghost invariant = { λ g. IsCurrent g.owners g.curs.items g.before.items };
+}
+
+impl MutexGraph {
+    /// No thread and no mutex, with room for the numbers below two. Fails where there is no memory.
+    pub fn new(alloc: Global, threads: u16, mutexes: u16) -> Result<MutexGraph, AllocError>
+        ensures { IfOk result (λ g. g ≡ record { members = replicate threads None; ceilings = replicate mutexes None; taken = [] }) }
+    {
+        let owners = Owners::new(alloc, threads, mutexes)?;
+        let mut curs = vec![in alloc; 0; threads as usize]?;
+        let before = vec![in alloc; 0; threads as usize]?;
+        compute(&owners, &mut curs);
+        Ok(MutexGraph {
+            owners,
+            curs,
+            before,
+        })
+    }
+
+    /// A thread that isn't there comes, with its base. It waits on no mutex.
+    pub fn add_thread(&mut self, thread: ThreadNo, base: Prio)
+        requires below { thread < length self.old.members }
+        requires absent { has_thread self.old thread ≡ false }
+        ensures { self.new ≡ with_member self.old thread (Some (record { base = base; wait = None })) }
+    {
+        let row = MemberRow { base, wait: None };
+        self.owners.set_member(thread, Some(row));
+        compute(&self.owners, &mut self.curs);
+    }
+
+    /// A mutex that isn't there comes, with its ceiling. Nobody owns it.
+    pub fn add_mutex(&mut self, mutex: ObjNo, ceiling: Prio)
+        requires below { mutex < length self.old.ceilings }
+        requires absent { has_mutex self.old mutex ≡ false }
+        ensures { self.new ≡ ceiling_edit mutex ceiling self.old }
+    {
+        self.owners.set_ceiling(mutex, Some(ceiling));
+        compute(&self.owners, &mut self.curs);
+    }
+
+    /// Gives a thread another base.
+    pub fn set_base<L: Ledger>(
+        &mut self,
+        thread: ThreadNo,
+        base: Prio,
+        out: &mut Changes,
+        steps: &mut Steps<L>,
+    )
+        requires there { IsTrue (has_thread self.old thread) }
+        requires room { length self.old.members ≤ out.old.threads }
+        ensures graph { self.new ≡ base_edit thread base self.old }
+        ensures changes { out.new ≡ record out.old { changes = changes self.old self.new } }
+    {
+        steps.tick();
+        self.owners.set_base(thread, base);
+        renew(&self.owners, &mut self.curs, &mut self.before, out);
+    }
+
+    /// Gives a mutex another ceiling. The answer is the old one.
+    pub fn set_ceiling<L: Ledger>(
+        &mut self,
+        mutex: ObjNo,
+        ceiling: Prio,
+        out: &mut Changes,
+        steps: &mut Steps<L>,
+    ) -> Prio
+        requires there { IsTrue (has_mutex self.old mutex) }
+        requires room { length self.old.members ≤ out.old.threads }
+        ensures answer { Some result ≡ ceiling_at self.old mutex }
+        ensures graph { self.new ≡ ceiling_edit mutex ceiling self.old }
+        ensures changes { out.new ≡ record out.old { changes = changes self.old self.new } }
+    {
+        steps.tick();
+        let old = self.ceiling(mutex);
+        self.owners.set_ceiling(mutex, Some(ceiling));
+        renew(&self.owners, &mut self.curs, &mut self.before, out);
+        old
+    }
+
+    /// A thread that waits on no mutex takes a mutex: it gets one that nobody owns, and takes its own
+    /// once more, up to 255 times.
+    pub fn take<L: Ledger>(
+        &mut self,
+        thread: ThreadNo,
+        mutex: ObjNo,
+        out: &mut Changes,
+        steps: &mut Steps<L>,
+    ) -> Took
+        requires thread { IsTrue (has_thread self.old thread) }
+        requires mutex { IsTrue (has_mutex self.old mutex) }
+        requires idle { awaited_in self.old thread ≡ None }
+        requires room { length self.old.members ≤ out.old.threads }
+        ensures answer { result ≡ took_of thread (taken_of self.old mutex) }
+        ensures graph { self.new ≡ take_edit thread mutex self.old }
+        ensures changes { out.new ≡ record out.old { changes = changes self.old self.new } }
+    {
+        steps.tick();
+        let took = self.owners.take(thread, mutex);
+        renew(&self.owners, &mut self.curs, &mut self.before, out);
+        took
+    }
+
+    /// A thread that waits on no mutex waits on one that another thread owns, with an arrival number.
+    pub fn wait<L: Ledger>(
+        &mut self,
+        thread: ThreadNo,
+        mutex: ObjNo,
+        at: u64,
+        out: &mut Changes,
+        steps: &mut Steps<L>,
+    )
+        requires thread { IsTrue (has_thread self.old thread) }
+        requires mutex { IsTrue (has_mutex self.old mutex) }
+        requires idle { awaited_in self.old thread ≡ None }
+        requires owned { IsOther thread (owner_in self.old mutex) }
+        requires room { length self.old.members ≤ out.old.threads }
+        ensures graph { self.new ≡ wait_edit thread mutex at self.old }
+        ensures changes { out.new ≡ record out.old { changes = changes self.old self.new } }
+    {
+        steps.tick();
+        self.owners.set_wait(thread, Some(WaitRow { mutex, at }));
+        renew(&self.owners, &mut self.curs, &mut self.before, out);
+    }
+
+    /// A thread that waits on a mutex waits no more.
+    pub fn leave<L: Ledger>(&mut self, thread: ThreadNo, out: &mut Changes, steps: &mut Steps<L>)
+        requires thread { IsTrue (has_thread self.old thread) }
+        requires waits { awaited_in self.old thread ≢ None }
+        requires room { length self.old.members ≤ out.old.threads }
+        ensures graph { self.new ≡ leave_edit thread self.old }
+        ensures changes { out.new ≡ record out.old { changes = changes self.old self.new } }
+    {
+        steps.tick();
+        self.owners.set_wait(thread, None);
+        renew(&self.owners, &mut self.curs, &mut self.before, out);
+    }
+
+    /// A thread releases a mutex: its owner holds it once less, and at the last time it passes to the
+    /// first waiter, who has then got it once, or nobody owns it.
+    pub fn release<L: Ledger>(
+        &mut self,
+        thread: ThreadNo,
+        mutex: ObjNo,
+        out: &mut Changes,
+        steps: &mut Steps<L>,
+    ) -> Released
+        requires thread { IsTrue (has_thread self.old thread) }
+        requires mutex { IsTrue (has_mutex self.old mutex) }
+        requires room { length self.old.members ≤ out.old.threads }
+        ensures answer { result ≡ released_of thread (taken_of self.old mutex) (first_in self.old mutex) }
+        ensures graph { self.new ≡ release_edit thread mutex self.old }
+        ensures changes { out.new ≡ record out.old { changes = changes self.old self.new } }
+    {
+        steps.tick();
+        let first = first_waiter(&self.owners, &self.curs, mutex);
+        let released = self.owners.release(thread, mutex, first);
+        renew(&self.owners, &mut self.curs, &mut self.before, out);
+        released
+    }
+
+    /// The current priority of a thread.
+    pub fn cur(&self, thread: ThreadNo) -> Prio
+        requires { IsTrue (has_thread self.now thread) }
+        ensures { result ≡ cur_in self.now thread }
+    {
+        number(self.curs[thread.0 as usize])
+    }
+
+    /// The mutex that a thread waits on: `None` exactly where it waits on none.
+    pub fn waits(&self, thread: ThreadNo) -> Option<ObjNo>
+        requires { IsTrue (has_thread self.now thread) }
+        ensures { result ≡ awaited_in self.now thread }
+    {
+        let wait = self.owners.member(thread)?.wait?;
+        Some(wait.mutex)
+    }
+
+    /// The owner of a mutex: `None` exactly where nobody owns it.
+    pub fn owner(&self, mutex: ObjNo) -> Option<ThreadNo>
+        requires { IsTrue (has_mutex self.now mutex) }
+        ensures { result ≡ owner_in self.now mutex }
+    {
+        let row = self.owners.taken(mutex)?;
+        Some(row.owner)
+    }
+
+    /// The first waiter of a mutex: the most urgent now, of equals the one that came first. `None`
+    /// exactly where nobody waits.
+    pub fn first(&self, mutex: ObjNo) -> Option<ThreadNo>
+        requires { IsTrue (has_mutex self.now mutex) }
+        ensures { result ≡ first_in self.now mutex }
+    {
+        first_waiter(&self.owners, &self.curs, mutex)
+    }
+
+    /// How often the owner of a mutex has taken it: 0 where nobody owns it.
+    pub fn hold(&self, mutex: ObjNo) -> u8
+        requires { IsTrue (has_mutex self.now mutex) }
+        ensures { result ≡ hold_of (taken_of self.now mutex) }
+    {
+        match self.owners.taken(mutex) {
+            None => 0,
+            Some(row) => row.hold,
+        }
+    }
+
+    /// The ceiling of a mutex.
+    pub fn ceiling(&self, mutex: ObjNo) -> Prio
+        requires { IsTrue (has_mutex self.now mutex) }
+        ensures { Some result ≡ ceiling_at self.now mutex }
+    {
+        let Some(ceiling) = self.owners.ceiling(mutex) else {
+            unreachable!();
+        };
+        ceiling
+    }
+}

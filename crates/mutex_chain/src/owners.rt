@@ -1,0 +1,281 @@
+ghost use Rattle.std.specs.Prelude.{ℕ, ◌≡◌, ◌<◌, ◌≤◌, [], None, Some, length, map, not, ◌==◌, filter, if◌then◌else◌, replicate, slice_set, vec_capacity, IfOk, IfSome, IsTrue};
+ghost use Rattle.std.specs.List.{find};
+ghost use Rattle.rt_plain.specs.Ownership.{member_at, taken_of, member_urgency, with_member, base_edit, member_edit, with_wait, with_mutex_free, with_mutex_got, with_taken_times, wait_of, take_edit, pass_edit_to, first_in, release_edit};
+ghost use Rattle.mutex_chain.specs.Graph.{took_of, released_of, waiter_with};
+ghost use Rattle.mutex_chain.specs.Owners.{IsSound, has_thread, has_mutex, ceiling_at, blocker_in, with_hold};
+
+use crate::answers::{Released, Took};
+use crate::rows::{MemberRow, TakenRow, WaitRow};
+use crate::waiter::Waiter;
+use rt_base::{ObjNo, Prio, ThreadNo};
+use std::alloc::{AllocError, Global};
+use std::marker::Model;
+
+// The threads and the mutexes that are there, by number, and who owns what, last got first.
+#[derive(Drop)]
+pub struct Owners {
+    members: Vec<Option<MemberRow>>,
+    ceilings: Vec<Option<Prio>>,
+    taken: Vec<TakenRow>,
+}
+
+impl Model for Owners {
+    ghost use Rattle.std.specs.Prelude.{◌≤◌, length, vec_capacity};
+    ghost use Rattle.rt_plain.specs.Ownership.{Ownership};
+    ghost use Rattle.mutex_chain.specs.Owners.{IsSound};
+
+    ghost Value = { Ownership };
+
+    ghost view = { λ o. record { members = o.members.items; ceilings = o.ceilings.items; taken = o.taken.items } };
+
+    ghost invariant = { λ o. (length o.ceilings.items ≤ vec_capacity o.taken)
+        × IsSound (record { members = o.members.items; ceilings = o.ceilings.items; taken = o.taken.items }) };
+}
+
+impl Owners {
+    // Nobody and no mutex, with room for the numbers below two.
+    pub fn new(alloc: Global, threads: u16, mutexes: u16) -> Result<Owners, AllocError>
+        ensures { IfOk result (λ o. o ≡ record { members = replicate threads None; ceilings = replicate mutexes None; taken = [] }) }
+    {
+        let members = vec![in alloc; None; threads as usize]?;
+        let ceilings = vec![in alloc; None; mutexes as usize]?;
+        let taken = Vec::with_capacity(alloc, mutexes as usize)?;
+        Ok(Owners {
+            members,
+            ceilings,
+            taken,
+        })
+    }
+
+    // How many thread numbers there are.
+    pub fn threads(&self) -> u16
+        ensures count { result ≡ length self.now.members }
+        ensures sound { IsSound self.now }
+    {
+        self.members.len() as u16
+    }
+
+    // The row of a thread, if it is there.
+    pub fn member(&self, thread: ThreadNo) -> Option<MemberRow>
+        requires { thread < length self.now.members }
+        ensures { result ≡ member_at self.now thread }
+    {
+        self.members[thread.0 as usize]
+    }
+
+    // Whether a thread is there.
+    pub fn has(&self, thread: ThreadNo) -> bool
+        requires { thread < length self.now.members }
+        ensures { result ≡ has_thread self.now thread }
+    {
+        self.members[thread.0 as usize].is_some()
+    }
+
+    // The ceiling of a mutex, if it is there.
+    pub fn ceiling(&self, mutex: ObjNo) -> Option<Prio>
+        requires { mutex < length self.now.ceilings }
+        ensures { result ≡ ceiling_at self.now mutex }
+    {
+        self.ceilings[mutex.0 as usize]
+    }
+
+    // Who owns a mutex, and how often it was taken.
+    pub fn taken(&self, mutex: ObjNo) -> Option<TakenRow>
+        ensures row { result ≡ taken_of self.now mutex }
+        ensures within { IfSome result (λ row. row.owner < length self.now.members) }
+    {
+        row_of(&self.taken, mutex)
+    }
+
+    // The owner of the mutex that a thread waits on.
+    pub fn blocker(&self, thread: ThreadNo) -> Option<ThreadNo>
+        requires { thread < length self.now.members }
+        ensures owner { result ≡ blocker_in self.now thread }
+        ensures within { IfSome result (λ owner. owner < length self.now.members) }
+    {
+        let wait = self.member(thread)?.wait?;
+        let row = self.taken(wait.mutex)?;
+        Some(row.owner)
+    }
+
+    // A thread's own urgency: the least of its base and the ceilings of the mutexes that it owns.
+    pub fn urgency(&self, thread: ThreadNo) -> u16
+        requires { thread < length self.now.members }
+        ensures { result ≡ member_urgency self.now thread }
+    {
+        let mut least = match self.member(thread) {
+            None => 256,
+            Some(row) => row.base.0 as u16,
+        };
+        for row in &self.taken {
+            if row.owner.0 == thread.0
+                && let Some(ceiling) = self.ceilings[row.mutex.0 as usize]
+            {
+                least = least.min(ceiling.0 as u16);
+            }
+        }
+        least
+    }
+
+    // A thread in the wait list of a mutex, with this priority, where it waits there.
+    pub fn waiter(&self, thread: ThreadNo, mutex: ObjNo, prio: u16) -> Option<Waiter>
+        requires { thread < length self.now.members }
+        ensures { result ≡ waiter_with prio mutex thread (wait_of self.now thread) }
+    {
+        let wait = self.member(thread)?.wait?;
+        (wait.mutex == mutex).then_some(Waiter {
+            thread,
+            prio,
+            at: wait.at,
+        })
+    }
+
+    // Gives a number another row.
+    pub fn set_member(&mut self, thread: ThreadNo, row: Option<MemberRow>)
+        requires { thread < length self.old.members }
+        ensures { self.new ≡ with_member self.old thread row }
+    {
+        self.members[thread.0 as usize] = row;
+    }
+
+    // Gives a number another ceiling, or none.
+    pub fn set_ceiling(&mut self, mutex: ObjNo, ceiling: Option<Prio>)
+        requires { mutex < length self.old.ceilings }
+        ensures { self.new ≡ record self.old { ceilings = slice_set self.old.ceilings mutex ceiling } }
+    {
+        self.ceilings[mutex.0 as usize] = ceiling;
+    }
+
+    // Gives a thread another base.
+    pub fn set_base(&mut self, thread: ThreadNo, base: Prio)
+        requires { thread < length self.old.members }
+        ensures { self.new ≡ base_edit thread base self.old }
+    {
+        let row = self.members[thread.0 as usize];
+        self.members[thread.0 as usize] = row.map(|row| MemberRow {
+            base,
+            wait: row.wait,
+        });
+    }
+
+    // Lets a thread wait, or wait no more.
+    pub fn set_wait(&mut self, thread: ThreadNo, wait: Option<WaitRow>)
+        requires { thread < length self.old.members }
+        ensures { self.new ≡ member_edit (with_wait wait) thread self.old }
+    {
+        let row = self.members[thread.0 as usize];
+        self.members[thread.0 as usize] = row.map(|row| MemberRow {
+            base: row.base,
+            wait,
+        });
+    }
+
+    // Nobody owns the mutex.
+    pub fn free(&mut self, mutex: ObjNo)
+        ensures { self.new ≡ with_mutex_free mutex self.old }
+    {
+        self.taken.retain(|row| !row.is_of(mutex));
+    }
+
+    // A thread owns the mutex, got last.
+    pub fn get(&mut self, mutex: ObjNo, thread: ThreadNo)
+        requires thread { thread < length self.old.members }
+        requires mutex { mutex < length self.old.ceilings }
+        ensures { self.new ≡ with_mutex_got mutex thread self.old }
+    {
+        self.free(mutex);
+        let row = TakenRow {
+            mutex,
+            owner: thread,
+            hold: 1,
+        };
+        let _ = self.taken.insert(0, row);
+    }
+
+    // A thread takes a mutex.
+    pub fn take(&mut self, thread: ThreadNo, mutex: ObjNo) -> Took
+        requires thread { thread < length self.old.members }
+        requires mutex { mutex < length self.old.ceilings }
+        ensures answer { result ≡ took_of thread (taken_of self.old mutex) }
+        ensures edit { self.new ≡ take_edit thread mutex self.old }
+    {
+        let Some(row) = self.taken(mutex) else {
+            self.get(mutex, thread);
+            return Took::Free;
+        };
+        if row.owner.0 != thread.0 {
+            return Took::Owned(row.owner);
+        }
+        if row.hold >= 255 {
+            return Took::HoldFull;
+        }
+        self.set_hold(mutex, row.hold + 1);
+        Took::Again
+    }
+
+    // The mutex passes to this waiter, or to nobody.
+    pub fn pass(&mut self, mutex: ObjNo, first: Option<ThreadNo>)
+        requires mutex { mutex < length self.old.ceilings }
+        requires first { IfSome first (λ t. t < length self.old.members) }
+        ensures { self.new ≡ pass_edit_to mutex first self.old }
+    {
+        match first {
+            None => self.free(mutex),
+            Some(thread) => {
+                self.set_wait(thread, None);
+                self.get(mutex, thread);
+            }
+        }
+    }
+
+    // A thread releases a mutex with this first waiter.
+    pub fn release(&mut self, thread: ThreadNo, mutex: ObjNo, first: Option<ThreadNo>) -> Released
+        requires mutex { mutex < length self.old.ceilings }
+        requires first { first ≡ first_in self.old mutex }
+        requires within { IfSome first (λ t. t < length self.old.members) }
+        ensures answer { result ≡ released_of thread (taken_of self.old mutex) (first_in self.old mutex) }
+        ensures edit { self.new ≡ release_edit thread mutex self.old }
+    {
+        let Some(row) = self.taken(mutex) else {
+            return Released::NotOwner(None);
+        };
+        if row.owner.0 != thread.0 {
+            return Released::NotOwner(Some(row.owner));
+        }
+        if row.hold > 1 {
+            self.set_hold(mutex, row.hold - 1);
+            return Released::Held(row.hold - 1);
+        }
+        let answer = match &first {
+            None => Released::Free,
+            Some(thread) => Released::Passed(*thread),
+        };
+        self.pass(mutex, first);
+        answer
+    }
+
+    // Its owner has taken the mutex so many times.
+    pub fn set_hold(&mut self, mutex: ObjNo, hold: u8)
+        ensures { self.new ≡ with_taken_times mutex hold self.old }
+    {
+        set_holds(&mut self.taken, mutex, hold);
+    }
+}
+
+// The row of a mutex.
+fn row_of(rows: &[TakenRow], mutex: ObjNo) -> Option<TakenRow>
+    ensures { result ≡ find (λ h. h.mutex == mutex) rows.now }
+{
+    rows.iter().copied().find(|row| row.is_of(mutex))
+}
+
+// Gives the row of a mutex another hold.
+fn set_holds(rows: &mut Vec<TakenRow>, mutex: ObjNo, hold: u8)
+    ensures rows { rows.new.items ≡ map (with_hold mutex hold) rows.old.items }
+    ensures room { vec_capacity rows.new ≡ vec_capacity rows.old }
+{
+    for i in 0..rows.len() {
+        let row = rows[i].with_hold(mutex, hold);
+        rows[i] = row;
+    }
+}
