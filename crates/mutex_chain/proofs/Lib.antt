@@ -1,8 +1,10 @@
 pub mod FirstLemmas
 pub mod KeepLemmas
+pub mod LineLemmas
 pub mod ChangeLemmas
 pub mod CurLemmas
 pub mod OwnerLemmas
+pub mod PassLemmas
 pub mod ReachLemmas
 pub mod UrgencyLemmas
 pub mod WalkLemmas

@@ -16,13 +16,13 @@ others mutex hs = filter (λ h. not (h.mutex == mutex)) hs
 abbrev pub Apart : Taken → Taken → Type 0
 Apart a b = a.mutex ≢ b.mutex
 
-apart_head : (h : Taken) (hs : List Taken) → AllPairs Apart (h ∷ hs) → All (Apart h) hs
+pub apart_head : (h : Taken) (hs : List Taken) → AllPairs Apart (h ∷ hs) → All (Apart h) hs
 apart_head h hs p = λ i d k. p 0 (suc i) d (omega arith) (omega arith)
 
 apart_tail : (h : Taken) (hs : List Taken) → AllPairs Apart (h ∷ hs) → AllPairs Apart hs
 apart_tail h hs p = λ i j d k m. p (suc i) (suc j) d (omega arith) (omega arith)
 
-others_same : (mutex : ℕ) (hs : List Taken) → All (λ h. mutex ≢ h.mutex) hs → others mutex hs ≡ hs
+pub others_same : (mutex : ℕ) (hs : List Taken) → All (λ h. mutex ≢ h.mutex) hs → others mutex hs ≡ hs
 others_same mutex [] a = refl
 others_same mutex (h ∷ hs) a =
     ap (λ b. cond (not b) (h ∷ others mutex hs) (others mutex hs)) (ne_eqb h.mutex mutex (λ e. All-head (λ (h : Taken). mutex ≢ h.mutex) h hs a (sym e)))

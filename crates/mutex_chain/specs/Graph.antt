@@ -1,9 +1,9 @@
 -- What the calls of the graph answer, and the lists that they fill.
-use Rattle.std.specs.Prelude.{ℕ, ◌≡◌, ◌≢◌, ◌-◌, Bool, true, false, not, ◌&&◌, min, List, length, Option, Some, None, IsTrue, nat_lt, slice_index, if◌then◌else◌, ◌==◌}
+use Rattle.std.specs.Prelude.{ℕ, suc, [], ◌∷◌, ◌++◌, ◌≡◌, ◌≢◌, ◌-◌, Bool, true, false, not, ◌&&◌, min, List, length, Option, Some, None, IsTrue, nat_lt, slice_index, if◌then◌else◌, ◌==◌}
 use Rattle.std.specs.Option.{option_map}
 use Rattle.rt_base.specs.declared.codes.WaitOrder.{WaitOrder}
 use Rattle.rt_plain.specs.Waiting.{Waiter, stands_before}
-use Rattle.rt_plain.specs.Ownership.{Ownership, Taken, MutexWait, CurChange}
+use Rattle.rt_plain.specs.Ownership.{Ownership, Taken, MutexWait, CurChange, Pass, wait_of, wait_row}
 use Rattle.mutex_chain.specs.declared.answers.Took.{Took}
 use Rattle.mutex_chain.specs.declared.answers.Released.{Released}
 use Rattle.mutex_chain.specs.Owners.{has_thread}
@@ -22,6 +22,15 @@ pub record WokenList : Type 0 where
 pub record PassList : Type 0 where
   pub threads : ℕ
   pub passes : List (ℕ × ℕ)
+
+-- a pass as a pair
+abbrev pub pair_of : Pass → ℕ × ℕ
+pair_of p = (p.mutex, p.thread)
+
+-- a list with one pass more, where the mutex passes to somebody
+abbrev pub passed_to : ℕ → Option ℕ → PassList → PassList
+passed_to mutex None p = p
+passed_to mutex (Some t) p = record p { passes = p.passes ++ (mutex, t) ∷ [] }
 
 -- the answer of `take` of a thread, by who owns the mutex
 abbrev pub took_of : ℕ → Option Taken → Took
@@ -56,6 +65,20 @@ pub record Keeps (before after : Ownership) : Type 0 where
 abbrev pub waiter_with : ℕ → ℕ → ℕ → Option MutexWait → Option Waiter
 waiter_with prio mutex t None = None
 waiter_with prio mutex t (Some w) = if w.mutex == mutex then Some (record { thread = t; prio = prio; number = w.number }) else None
+
+-- the row of a thread in a mutex's wait list, where it waits there
+abbrev pub row_in : Ownership → ℕ → ℕ → Option Waiter
+row_in o mutex t = wait_row o mutex t (wait_of o t)
+
+-- whether a waiter stands before the row of another thread
+abbrev pub goes_before : Waiter → Option Waiter → Bool
+goes_before w None = false
+goes_before w (Some v) = stands_before WaitOrder.Prio w v
+
+-- before which place of a line of threads a waiter belongs
+abbrev pub place_of : (ℕ → Option Waiter) → Waiter → List ℕ → ℕ
+place_of row w [] = 0
+place_of row w (t ∷ ts) = if goes_before w (row t) then 0 else suc (place_of row w ts)
 
 -- the change of a thread that is there, where two numbers differ
 abbrev pub changed_at : Ownership → ℕ → ℕ → ℕ → Option CurChange

@@ -1,6 +1,6 @@
 ghost use Rattle.std.specs.Prelude.{ℕ, ◌≡◌, ◌<◌, ◌≤◌, length, min, IfSome};
 ghost use Rattle.std.specs.List.{filter_map, range_with_len};
-ghost use Rattle.rt_plain.specs.Ownership.{Ownership, member_urgency, changes, first_in};
+ghost use Rattle.rt_plain.specs.Ownership.{Ownership, member_urgency, changes, first_in, waiters_in};
 ghost use Rattle.mutex_chain.specs.Graph.{Keeps, changed_at, listed_at};
 ghost use Rattle.mutex_chain.specs.Owners.{IsSound, blocker_in};
 ghost use Rattle.mutex_chain.specs.Walks.{carried, urgencies_of, curs_of};
@@ -66,6 +66,20 @@ pub fn renew(owners: &Owners, curs: &mut Vec<u16>, before: &mut Vec<u16>, out: &
         out.new ≡ record out.old { changes = changes o owners.now } }
 {
     swap(curs, before);
+    settle(owners, curs, before, out);
+}
+
+// Computes the current priorities anew, and lists those that are not what they were before.
+pub fn settle(owners: &Owners, curs: &mut Vec<u16>, before: &[u16], out: &mut Changes)
+    requires curs { length curs.old.items ≡ length owners.now.members }
+    requires before { length before.now ≡ length owners.now.members }
+    requires room { length owners.now.members ≤ out.old.threads }
+    ensures sound { IsSound owners.now }
+    ensures curs { curs.new.items ≡ curs_of owners.now }
+    ensures places { length curs.new.items ≡ length owners.now.members }
+    ensures changes { (o : Ownership) → IsSound o → before.now ≡ curs_of o → Keeps o owners.now →
+        out.new ≡ record out.old { changes = changes o owners.now } }
+{
     compute(owners, curs);
     list_changes(owners, before, curs, out);
 }
@@ -130,4 +144,17 @@ pub fn first_waiter(owners: &Owners, curs: &[u16], mutex: ObjNo) -> Option<Threa
     }
     let waiter = first?;
     Some(waiter.thread)
+}
+
+// How many threads wait on a mutex.
+pub fn count_waiters(owners: &Owners, mutex: ObjNo) -> u16
+    ensures { result ≡ length (waiters_in owners.now mutex) }
+{
+    let mut count = 0;
+    for t in 0..owners.threads() {
+        if owners.waits_on(ThreadNo(t), mutex) {
+            count += 1;
+        }
+    }
+    count
 }

@@ -1,17 +1,21 @@
-ghost use Rattle.std.specs.Prelude.{◌≡◌, ◌≢◌, ◌<◌, ◌≤◌, [], None, Some, false, length, replicate, slice_set, IfOk, IfSome, IsTrue};
+ghost use Rattle.std.specs.Prelude.{◌≡◌, ◌≢◌, ◌<◌, ◌≤◌, [], None, Some, false, length, map, replicate, slice_set, IfOk, IfSome, IsTrue};
 ghost use Rattle.std.specs.Option.{option_map};
-ghost use Rattle.rt_plain.specs.Ownership.{awaited_in, base_edit, ceiling_edit, changes, cur_in, first_in, leave_edit, owner_in, release_edit, take_edit, taken_of, wait_edit, with_member};
-ghost use Rattle.mutex_chain.specs.Graph.{IsOther, took_of, released_of, hold_of};
+ghost use Rattle.rt_plain.specs.Ownership.{awaited_in, base_edit, ceiling_edit, changes, cur_in, first_in, kill_mutex_edit, kill_thread_edit, leave_edit, owner_in, passes_of, release_edit, take_edit, taken_of, wait_edit, waiters_in, with_member};
+ghost use Rattle.mutex_chain.specs.Graph.{IsOther, took_of, released_of, hold_of, pair_of};
 ghost use Rattle.mutex_chain.specs.Owners.{has_thread, has_mutex, ceiling_at};
 
 use crate::answers::{Released, Took};
 use crate::changes::Changes;
-use crate::curs::{compute, first_waiter, number, renew};
+use crate::curs::{compute, count_waiters, first_waiter, number, renew, settle};
+use crate::ends::{give_back, leave_all, list_waiters};
 use crate::owners::Owners;
+use crate::passes::Passes;
 use crate::rows::{MemberRow, WaitRow};
+use crate::woken::Woken;
 use rt_base::{ObjNo, Prio, Steps, ThreadNo};
 use std::alloc::{AllocError, Global};
 use std::marker::Model;
+use std::mem::swap;
 use std::sync::ledger::Ledger;
 
 /// The threads and the mutexes: who owns which mutex and how often it was taken, who waits on which,
@@ -201,6 +205,52 @@ impl MutexGraph {
         released
     }
 
+    /// A mutex ends. All its waiters wait no more: they are woken in the order in which they stood.
+    pub fn kill_mutex<L: Ledger>(
+        &mut self,
+        mutex: ObjNo,
+        woken: &mut Woken,
+        out: &mut Changes,
+        steps: &mut Steps<L>,
+    )
+        requires there { IsTrue (has_mutex self.old mutex) }
+        requires woken { length self.old.members ≤ woken.old.threads }
+        requires room { length self.old.members ≤ out.old.threads }
+        ensures woken { woken.new ≡ record woken.old { woken = waiters_in self.old mutex } }
+        ensures graph { self.new ≡ kill_mutex_edit mutex self.old }
+        ensures changes { out.new ≡ record out.old { changes = changes self.old self.new } }
+    {
+        steps.tick();
+        list_waiters(&self.owners, &self.curs, mutex, woken);
+        self.owners.free(mutex);
+        leave_all(&mut self.owners, woken.as_slice());
+        self.owners.set_ceiling(mutex, None);
+        renew(&self.owners, &mut self.curs, &mut self.before, out);
+    }
+
+    /// A thread ends: it leaves its wait, and then gives back its mutexes, the last got first, each to
+    /// its first waiter or to nobody. Who is the first waiter is judged as the one before left it.
+    pub fn kill_thread<L: Ledger>(
+        &mut self,
+        thread: ThreadNo,
+        passes: &mut Passes,
+        out: &mut Changes,
+        steps: &mut Steps<L>,
+    )
+        requires there { IsTrue (has_thread self.old thread) }
+        requires passes { length self.old.members ≤ passes.old.threads }
+        requires room { length self.old.members ≤ out.old.threads }
+        ensures passes { passes.new ≡ record passes.old { passes = map pair_of (passes_of thread self.old) } }
+        ensures graph { self.new ≡ kill_thread_edit thread self.old }
+        ensures changes { out.new ≡ record out.old { changes = changes self.old self.new } }
+    {
+        steps.tick();
+        swap(&mut self.curs, &mut self.before);
+        self.owners.set_member(thread, None);
+        give_back(&mut self.owners, &mut self.curs, thread, passes);
+        settle(&self.owners, &mut self.curs, &self.before, out);
+    }
+
     /// The current priority of a thread.
     pub fn cur(&self, thread: ThreadNo) -> Prio
         requires { IsTrue (has_thread self.now thread) }
@@ -256,5 +306,13 @@ impl MutexGraph {
             unreachable!();
         };
         ceiling
+    }
+
+    /// The number of threads that wait on a mutex.
+    pub fn waiters(&self, mutex: ObjNo) -> u16
+        requires { IsTrue (has_mutex self.now mutex) }
+        ensures { result ≡ length (waiters_in self.now mutex) }
+    {
+        count_waiters(&self.owners, mutex)
     }
 }

@@ -4,11 +4,16 @@
 mod answers;
 mod changes;
 mod curs;
+mod ends;
 mod graph;
 mod owners;
+mod passes;
 mod rows;
 mod waiter;
+mod woken;
 
 pub use answers::{Released, Took};
 pub use changes::{Change, Changes};
 pub use graph::MutexGraph;
+pub use passes::Passes;
+pub use woken::Woken;

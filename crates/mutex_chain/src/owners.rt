@@ -1,7 +1,9 @@
 ghost use Rattle.std.specs.Prelude.{ℕ, ◌≡◌, ◌<◌, ◌≤◌, [], None, Some, length, map, not, ◌==◌, filter, if◌then◌else◌, replicate, slice_set, vec_capacity, IfOk, IfSome, IsTrue};
 ghost use Rattle.std.specs.List.{find};
-ghost use Rattle.rt_plain.specs.Ownership.{member_at, taken_of, member_urgency, with_member, base_edit, member_edit, with_wait, with_mutex_free, with_mutex_got, with_taken_times, wait_of, take_edit, pass_edit_to, first_in, release_edit};
-ghost use Rattle.mutex_chain.specs.Graph.{took_of, released_of, waiter_with};
+ghost use Rattle.std.specs.Option.{is_some, option_map};
+ghost use Rattle.rt_plain.specs.Ownership.{member_at, taken_of, member_urgency, owned_in, with_member, base_edit, member_edit, with_wait, with_mutex_free, with_mutex_got, with_taken_times, wait_of, take_edit, pass_edit_to, first_in, release_edit};
+ghost use Rattle.rt_plain.specs.Waiting.{head_of};
+ghost use Rattle.mutex_chain.specs.Graph.{took_of, released_of, row_in, waiter_with};
 ghost use Rattle.mutex_chain.specs.Owners.{IsSound, has_thread, has_mutex, ceiling_at, blocker_in, with_hold};
 
 use crate::answers::{Released, Took};
@@ -115,6 +117,23 @@ impl Owners {
             }
         }
         least
+    }
+
+    // Whether a thread waits on a mutex.
+    pub fn waits_on(&self, thread: ThreadNo, mutex: ObjNo) -> bool
+        requires { thread < length self.now.members }
+        ensures { result ≡ is_some (row_in self.now mutex thread) }
+    {
+        self.waiter(thread, mutex, 0).is_some()
+    }
+
+    // The mutex that a thread got last of those that it owns.
+    pub fn first_owned(&self, thread: ThreadNo) -> Option<ObjNo>
+        ensures mutex { result ≡ head_of (owned_in self.now thread) }
+        ensures within { IfSome result (λ mutex. mutex < length self.now.ceilings) }
+        ensures sound { IsSound self.now }
+    {
+        first_owned_by(&self.taken, thread)
     }
 
     // A thread in the wait list of a mutex, with this priority, where it waits there.
@@ -267,6 +286,14 @@ fn row_of(rows: &[TakenRow], mutex: ObjNo) -> Option<TakenRow>
     ensures { result ≡ find (λ h. h.mutex == mutex) rows.now }
 {
     rows.iter().copied().find(|row| row.is_of(mutex))
+}
+
+// The mutex of the first row of an owner.
+fn first_owned_by(rows: &[TakenRow], thread: ThreadNo) -> Option<ObjNo>
+    ensures { result ≡ option_map (λ h. h.mutex) (find (λ h. h.owner == thread) rows.now) }
+{
+    let row = rows.iter().find(|row| row.owner.0 == thread.0)?;
+    Some(row.mutex)
 }
 
 // Gives the row of a mutex another hold.

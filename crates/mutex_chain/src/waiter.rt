@@ -1,7 +1,7 @@
 ghost use Rattle.std.specs.Prelude.{◌≡◌};
 ghost use Rattle.rt_base.specs.declared.codes.WaitOrder.{WaitOrder};
 ghost use Rattle.rt_plain.specs.Waiting.{stands_before};
-ghost use Rattle.mutex_chain.specs.Graph.{sooner_of};
+ghost use Rattle.mutex_chain.specs.Graph.{goes_before, sooner_of};
 
 use rt_base::ThreadNo;
 use std::marker::Model;
@@ -41,6 +41,16 @@ impl Waiter {
         match other {
             Some(other) if !self.stands_before(&other) => other,
             _ => self,
+        }
+    }
+
+    // Whether there is another one and this one stands before it.
+    pub fn goes_before(&self, other: Option<Waiter>) -> bool
+        ensures { result ≡ goes_before self.now other }
+    {
+        match other {
+            None => false,
+            Some(other) => self.stands_before(&other),
         }
     }
 }

@@ -1,0 +1,8 @@
+use Rattle.std.proofs.Common.{◌≡◌, length, drop}
+use Rattle.rt_plain.specs.Ownership.{leave_edits}
+use Rattle.mutex_chain.proofs.ends.leave_all.Given as goal
+
+abbrev pub invariant-loop-i : goal.invariant-loop-i
+invariant-loop-i l =
+    (length l.owners.members ≡ length l.initial.owners.members) × (l.owners.ceilings ≡ l.initial.owners.ceilings)
+    × (leave_edits (drop l.i l.threads) l.owners ≡ leave_edits l.threads l.initial.owners)

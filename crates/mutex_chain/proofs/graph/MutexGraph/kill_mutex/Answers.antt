@@ -1,0 +1,16 @@
+use Rattle.std.proofs.Common.{◌≡◌, ap, ◌∙◌}
+use Rattle.rt_plain.specs.Ownership.{Ownership}
+use Rattle.mutex_chain.specs.Graph.{Keeps}
+use Rattle.mutex_chain.proofs.KeepLemmas.{keeps_leaves, keeps_same, keeps_trans}
+use Rattle.mutex_chain.proofs.graph.MutexGraph.kill_mutex.Goals as goal
+
+pub returns-clause-changes : goal.returns-clause-changes
+returns-clause-changes g c =
+    let old = c.self.inside.owners in
+    let free = c.free.new.self in
+    let left = c.leave_all.new.owners in
+    let new = c.set_ceiling.new.self in
+    let first : Keeps old free = keeps_same old free (ap (λ (o : Ownership). o.members) c.free.ensures) in
+    let second : Keeps free left = rw c.leave_all.ensures.edits (keeps_leaves c.as_slice.result.now free) in
+    let third : Keeps left new = keeps_same left new (ap (λ (o : Ownership). o.members) c.set_ceiling.ensures) in
+    rw (← c.self.view_is) (c.renew.ensures.changes old c.self.invariant.sound c.self.invariant.curs (keeps_trans old left new (keeps_trans old free left first second) third))

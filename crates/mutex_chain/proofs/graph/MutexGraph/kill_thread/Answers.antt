@@ -1,0 +1,16 @@
+use Rattle.std.proofs.Common.{◌≡◌, ap, ◌∙◌, None}
+use Rattle.rt_plain.specs.Ownership.{Ownership, owned_in}
+use Rattle.mutex_chain.specs.Graph.{Keeps}
+use Rattle.mutex_chain.specs.Walks.{curs_of}
+use Rattle.mutex_chain.proofs.KeepLemmas.{keeps_gone, keeps_passes, keeps_trans}
+use Rattle.mutex_chain.proofs.graph.MutexGraph.kill_thread.Goals as goal
+
+pub returns-clause-changes : goal.returns-clause-changes
+returns-clause-changes g c =
+    let old = c.self.inside.owners in
+    let bare = c.set_member.new.self in
+    let new = c.give_back.new.owners in
+    let first : Keeps old bare = rw c.set_member.ensures (keeps_gone old c.args.thread) in
+    let second : Keeps bare new = rw c.give_back.ensures.owners (keeps_passes (owned_in bare c.args.thread) bare) in
+    let numbers : c.deref.result.now ≡ curs_of c.self.inside.owners = c.deref.ensures.value ∙ ap (λ v. v.items) c.swap.ensures.y_after ∙ c.self.invariant.curs in
+    rw (← c.self.view_is) (c.settle.ensures.changes old c.self.invariant.sound numbers (keeps_trans old bare new first second))
