@@ -1,13 +1,12 @@
 -- Which current priorities an edit changed.
-use Rattle.std.proofs.Common.{ℕ, ◌≡◌, ◌+◌, ◌-◌, ◌<◌, ◌≤◌, zero, suc, List, [], ◌∷◌, ◌++◌, length, map, get_or, Bool, true, false, not, cond, ◌&&◌, eqb, Option, Some, None, refl, sym, ap, ◌∙◌, arith, ◌⊎◌, inl, inr, append_assoc}
-use Rattle.std.specs.Prelude.{fold, min, slice_index, All, slice_set, slice_index_or}
+use Rattle.std.proofs.Common.{ℕ, ◌≡◌, ◌+◌, ◌-◌, ◌<◌, ◌≤◌, zero, suc, List, [], ◌∷◌, ◌++◌, length, map, Bool, true, false, not, cond, ◌&&◌, eqb, Option, Some, None, refl, sym, ap, ◌∙◌, arith, ◌⊎◌, inl, inr, append_assoc}
+use Rattle.std.specs.Prelude.{fold, min, slice_index, slice_index_or}
 use Rattle.std.specs.List.{filter_map, range_with_len, cons_option}
-use Rattle.std.specs.Option.{option_map}
-use Rattle.std.proofs.lemmas.Bool.{cases_lt, cases_eq, false≢true}
+use Rattle.std.proofs.lemmas.Bool.{cases_lt, false≢true}
 use Rattle.std.proofs.lemmas.List.{get_or_past}
 use Rattle.std.proofs.lemmas.List.Elements.{All-get_or}
 use Rattle.rt_plain.specs.Priority.{urgency_of, reach}
-use Rattle.rt_plain.specs.Ownership.{Ownership, Member, CurChange, member_at, base_of, is_there, member_urgency, owned_in, graph_in, cur_in, change_at, changes, member_edit, with_member}
+use Rattle.rt_plain.specs.Ownership.{Ownership, Member, CurChange, member_at, base_of, is_there, member_urgency, owned_in, graph_in, cur_in, change_at, changes}
 use Rattle.mutex_chain.specs.Owners.{IsSound, IsSmall, has_thread}
 use Rattle.mutex_chain.specs.Walks.{curs_of}
 use Rattle.mutex_chain.specs.Graph.{Keeps, changed_at, listed_at}

@@ -6,14 +6,14 @@ use Rattle.std.specs.Option.{IfSome, option_map, option_and_then}
 use Rattle.std.proofs.lemmas.List.Elements.{All-head, All-tail, filter_agree}
 use Rattle.std.proofs.lemmas.List.{get_or_past}
 use Rattle.std.proofs.lemmas.Bool.{cases_lt}
-use Rattle.std.proofs.lemmas.List.FromFn.{fill_by_all, length-range_with_len}
+use Rattle.std.proofs.lemmas.List.FromFn.{fill_by_all}
 use Rattle.std.proofs.lemmas.Option.{none-some}
-use Rattle.rt_plain.specs.Priority.{Graph, blocker_of, urgency_of, reach, least}
+use Rattle.rt_plain.specs.Priority.{Graph, blocker_of, urgency_of, reach}
 use Rattle.rt_plain.specs.Ownership.{Ownership, Member, MutexWait, Taken, member_at, member_urgency, taken_of, owner_in, awaited_in, graph_in, cur_in}
 use Rattle.mutex_chain.specs.Owners.{IsSound, blocker_in}
 use Rattle.mutex_chain.specs.Walks.{all_carried, meets, urgencies_of, curs_of}
 use Rattle.mutex_chain.proofs.WalkLemmas.{all_carried_at, length-all_carried, meets_same}
-use Rattle.mutex_chain.proofs.ReachLemmas.{IsClosed, reach_is, self_skip, filter_range}
+use Rattle.mutex_chain.proofs.ReachLemmas.{reach_is, self_skip}
 
 pub map_range_at : {X : Type 0} (f : ℕ → X) (a n i : ℕ) (d : X) → i < n → get_or (map f (range_with_len a n)) i d ≡ f (a + i)
 map_range_at f a zero i d h = absurd (omega arith)
@@ -82,12 +82,6 @@ blocker_same o t = by_size (cases_lt t (length o.members))
         let long : length (graph_in o).blockers ≡ length o.members = length-map_range (blocker_in o) 0 (length o.members) in
         get_or_past (graph_in o).blockers t None (omega arith) ∙ sym (ap (λ m. option_and_then (owner_in o) (awaited_by m)) none)
 
-closed : (o : Ownership) → IsSound o → IsClosed (graph_in o)
-closed o s x b e =
-    let within : b < length o.members = blocker_within o x b s (sym (blocker_same o x) ∙ e) in
-    let long : length (graph_in o).blockers ≡ length o.members = length-map_range (blocker_in o) 0 (length o.members) in
-    omega arith
-
 pub graph_urgency : (o : Ownership) (t : ℕ) → t < length o.members → urgency_of (graph_in o) t ≡ member_urgency o t
 graph_urgency o t h = let e : 0 + t ≡ t = omega arith in map_range_at (member_urgency o) 0 (length o.members) t 0 h ∙ ap (member_urgency o) e
 
@@ -114,7 +108,7 @@ cur_is o t s h =
     let g : Graph = graph_in o in
     let long : length g.blockers ≡ length o.members = length-map_range (blocker_in o) 0 (length o.members) in
     let own : urgency_of g t ≡ member_urgency o t = graph_urgency o t (omega arith) in
-    let threads : reach g t ≡ filter (λ x. eqb t x || meets (length o.members) (blocker_in o) x t) (range_with_len 0 (length o.members)) = reach_is g t (closed o s) (omega arith) ∙ reach_same o t in
+    let threads : reach g t ≡ filter (λ x. eqb t x || meets (length o.members) (blocker_in o) x t) (range_with_len 0 (length o.members)) = reach_is g t (omega arith) ∙ reach_same o t in
     let numbers : map (urgency_of g) (filter (λ x. eqb t x || meets (length o.members) (blocker_in o) x t) (range_with_len 0 (length o.members)))
     ≡ map (member_urgency o) (filter (λ x. eqb t x || meets (length o.members) (blocker_in o) x t) (range_with_len 0 (length o.members))) =
     map_range (urgency_of g) (member_urgency o) (λ x. eqb t x || meets (length o.members) (blocker_in o) x t) 0 (length o.members) (λ x k. graph_urgency o x (omega arith)) in

@@ -1,12 +1,12 @@
 -- The first waiter, looked for from the end of the threads on.
-use Rattle.std.proofs.Common.{ℕ, ◌≡◌, ◌+◌, ◌-◌, ◌<◌, ◌≤◌, zero, suc, List, [], ◌∷◌, length, map, get_or, Bool, true, false, cond, Option, Some, None, refl, sym, ap, ◌∙◌, arith}
+use Rattle.std.proofs.Common.{ℕ, ◌≡◌, ◌+◌, ◌-◌, ◌<◌, List, [], ◌∷◌, length, map, Bool, true, false, cond, Option, Some, None, refl, sym, ap, ◌∙◌, arith}
 use Rattle.std.specs.Prelude.{slice_index, ◌==◌}
 use Rattle.std.specs.List.{filter_map, range_with_len, cons_option}
 use Rattle.std.specs.Option.{option_map, IfSome}
 use Rattle.std.proofs.lemmas.Option.{none-some}
 use Rattle.rt_base.specs.declared.codes.WaitOrder.{WaitOrder}
 use Rattle.rt_plain.specs.Waiting.{Waiter, stands_before, put_in_order, in_order, head_of}
-use Rattle.rt_plain.specs.Ownership.{Ownership, MutexWait, wait_of, wait_row, wait_rows_in, cur_in, first_in}
+use Rattle.rt_plain.specs.Ownership.{Ownership, MutexWait, wait_of, wait_row, wait_rows_in}
 use Rattle.mutex_chain.specs.Walks.{curs_of}
 use Rattle.mutex_chain.specs.Graph.{waiter_with, sooner_of}
 use Rattle.mutex_chain.proofs.CurLemmas.{cur_at}

@@ -1,11 +1,11 @@
 -- No edit brings a thread that wasn't there.
-use Rattle.std.proofs.Common.{ℕ, ◌≡◌, ◌≢◌, ◌<◌, ◌≤◌, List, length, Bool, true, false, cond, ◌&&◌, eqb, Option, Some, None, refl, sym, ap, ◌∙◌, arith, ◌⊎◌, inl, inr, [], ◌∷◌, get_or, get_or-set_same, get_or-set_other}
-use Rattle.std.specs.Prelude.{slice_set}
+use Rattle.std.proofs.Common.{ℕ, ◌≡◌, ◌<◌, ◌≤◌, List, length, Bool, true, false, cond, Option, Some, None, refl, sym, ap, ◌∙◌, arith, ◌⊎◌, inl, inr, [], ◌∷◌, get_or, get_or-set_same, get_or-set_other}
+use Rattle.std.specs.Prelude.{slice_set, nat_lt, ◌-◌, ◌==◌}
 use Rattle.std.specs.Option.{option_map}
 use Rattle.std.proofs.Math.ListN.{length-set}
 use Rattle.std.proofs.lemmas.Bool.{cases_lt, cases_eq, false≢true}
 use Rattle.std.proofs.lemmas.List.{get_or_past}
-use Rattle.rt_plain.specs.Ownership.{Ownership, Member, member_at, is_there, member_edit, with_member, with_wait, leave_edit, leave_edits, first_in, pass_edit_to, pass_edit, pass_edits}
+use Rattle.rt_plain.specs.Ownership.{Ownership, Member, member_at, is_there, member_edit, with_member, with_wait, leave_edit, leave_edits, first_in, pass_edit_to, pass_edit, pass_edits, Taken, taken_of, with_taken_times, release_edit, release_edit_of}
 use Rattle.mutex_chain.specs.Owners.{has_thread}
 use Rattle.mutex_chain.specs.Graph.{Keeps}
 
@@ -62,3 +62,15 @@ pub keeps_passes : (mutexes : List ℕ) (o : Ownership) → Keeps o (pass_edits 
 keeps_passes [] o = keeps_same o o refl
 keeps_passes (mutex ∷ mutexes) o =
     keeps_trans o (pass_edit mutex o) (pass_edits mutexes (pass_edit mutex o)) (keeps_pass mutex (first_in o mutex) o) (keeps_passes mutexes (pass_edit mutex o))
+
+pub keeps_release : (t mutex : ℕ) (o : Ownership) → Keeps o (release_edit t mutex o)
+keeps_release t mutex o = by_row (taken_of o mutex)
+  where
+    by_row : (row : Option Taken) → Keeps o (release_edit_of t mutex row o)
+    by_row None = keeps_same o o refl
+    by_row (Some h) = by_tests (h.owner == t) (nat_lt 1 h.hold)
+      where
+        by_tests : (b c : Bool) → Keeps o (cond b (cond c (with_taken_times mutex (h.hold - 1) o) (pass_edit mutex o)) o)
+        by_tests true true = keeps_same o (with_taken_times mutex (h.hold - 1) o) refl
+        by_tests true false = keeps_pass mutex (first_in o mutex) o
+        by_tests false c = keeps_same o o refl

@@ -1,5 +1,7 @@
 pub mod FirstLemmas
+pub mod HolderLemmas
 pub mod KeepLemmas
+pub mod LawLemmas
 pub mod LineLemmas
 pub mod ChangeLemmas
 pub mod CurLemmas

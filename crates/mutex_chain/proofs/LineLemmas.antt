@@ -1,5 +1,5 @@
 -- The waiters of a mutex in their order, put in one by one from the end of the threads on.
-use Rattle.std.proofs.Common.{ℕ, ◌≡◌, ◌+◌, ◌-◌, ◌<◌, ◌≤◌, zero, suc, List, [], ◌∷◌, ◌++◌, length, map, get_or, take, drop, Bool, true, false, cond, Option, Some, None, refl, sym, ap, ◌∙◌, arith, ◌⊎◌, inl, inr}
+use Rattle.std.proofs.Common.{ℕ, ◌≡◌, ◌+◌, ◌-◌, ◌<◌, ◌≤◌, zero, suc, List, [], ◌∷◌, length, map, get_or, drop, Bool, true, false, cond, Option, Some, None, refl, sym, ap, ◌∙◌, arith, ◌⊎◌, inl, inr}
 use Rattle.std.specs.Prelude.{slice_index, ◌==◌, All}
 use Rattle.std.specs.List.{filter_map, range_with_len, cons_option, insert}
 use Rattle.std.proofs.lemmas.Option.{none-some}
@@ -8,7 +8,7 @@ use Rattle.std.proofs.lemmas.List.{get_or_past, at_drop_more, length-map}
 use Rattle.std.proofs.lemmas.List.Elements.{All-nil, All-cons}
 use Rattle.rt_base.specs.declared.codes.WaitOrder.{WaitOrder}
 use Rattle.rt_plain.specs.Waiting.{Waiter, stands_before, put_in_order, in_order, threads_in_order}
-use Rattle.rt_plain.specs.Ownership.{Ownership, Member, MutexWait, member_at, wait_of, wait_row, waiters_in, wait_rows_in, cur_in}
+use Rattle.rt_plain.specs.Ownership.{Ownership, Member, MutexWait, wait_of, wait_row, waiters_in, wait_rows_in, cur_in}
 use Rattle.std.specs.Option.{is_some, option_and_then}
 use Rattle.mutex_chain.specs.Walks.{curs_of}
 use Rattle.mutex_chain.specs.Graph.{waiter_with, row_in, goes_before, place_of}

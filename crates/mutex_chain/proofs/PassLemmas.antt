@@ -1,23 +1,22 @@
 -- The mutexes of a thread that is gone pass one after the other.
-use Rattle.std.proofs.Common.{ℕ, ◌≡◌, ◌≢◌, ◌+◌, ◌-◌, ◌<◌, ◌≤◌, zero, suc, List, [], ◌∷◌, ◌++◌, length, map, get_or, drop, Bool, true, false, not, cond, eqb, Option, Some, None, refl, sym, ap, ◌∙◌, arith, ◌⊎◌, inl, inr, append_assoc}
+use Rattle.std.proofs.Common.{ℕ, ◌≡◌, ◌+◌, ◌<◌, ◌≤◌, zero, suc, List, [], ◌∷◌, ◌++◌, length, map, get_or, drop, Bool, true, false, not, cond, Option, Some, None, refl, sym, ap, ◌∙◌, arith, append_assoc}
 use Rattle.std.specs.Prelude.{filter, slice_set, All, ◌==◌}
-use Rattle.std.specs.List.{filter_map, cons_option, AllPairs, find}
+use Rattle.std.specs.List.{filter_map, AllPairs, find}
 use Rattle.std.specs.Option.{IfSome, option_map, option_and_then}
 use Rattle.std.proofs.Math.ListN.{length-set}
 use Rattle.std.proofs.lemmas.Option.{none-some}
-use Rattle.std.proofs.lemmas.Bool.{eqb-true, eq-eqb, ne_eqb, false≢true, cases_Bool}
+use Rattle.std.proofs.lemmas.Bool.{eq-eqb, ne_eqb, false≢true}
 use Rattle.std.proofs.lemmas.List.{length_push}
 use Rattle.std.proofs.lemmas.List.Kept.{AllPairs-filter}
 use Rattle.rt_base.specs.declared.codes.WaitOrder.{WaitOrder}
 use Rattle.rt_plain.specs.Waiting.{Waiter, head_of, in_order}
-use Rattle.rt_plain.specs.Ownership.{Ownership, Member, MutexWait, Taken, Pass, member_at, is_there, wait_of, wait_row, owned_in, first_in, with_wait, leave_edit, pass_edit_to, pass_edit, pass_edits, passes_from, wait_rows_in}
+use Rattle.rt_plain.specs.Ownership.{Ownership, Member, MutexWait, Taken, Pass, member_at, is_there, wait_row, owned_in, first_in, with_wait, pass_edit_to, pass_edit, pass_edits, passes_from, wait_rows_in}
 use Rattle.mutex_chain.specs.Owners.{IsSound, has_thread}
-use Rattle.mutex_chain.specs.Graph.{Keeps, PassList, pair_of, passed_to, row_in}
+use Rattle.mutex_chain.specs.Graph.{PassList, pair_of, passed_to, row_in}
 use Rattle.mutex_chain.proofs.OwnerLemmas.{Apart, others, others_same, apart_head}
 use Rattle.mutex_chain.proofs.CurLemmas.{found_has}
 use Rattle.mutex_chain.proofs.KeepLemmas.{keeps_pass}
 use Rattle.mutex_chain.proofs.LineLemmas.{AreRows, rows_are}
-use Rattle.mutex_chain.proofs.FirstLemmas.{rows_all}
 
 abbrev has_wait : Option MutexWait → Bool
 has_wait None = false
@@ -152,6 +151,7 @@ pub record IsPassing (t : ℕ) (first : Ownership) (empty : PassList) (o : Owner
   pub gone : has_thread o t ≡ false
   pub places : length ns ≡ length o.members
   pub size : length o.members ≡ length first.members
+  pub mutexes : length o.ceilings ≡ length first.ceilings
   pub owners : pass_edits (owned_in o t) o ≡ pass_edits (owned_in first t) first
   pub passes : p.passes ++ map pair_of (filter_map (λ p. p) (passes_from (owned_in o t) o)) ≡ map pair_of (filter_map (λ p. p) (passes_from (owned_in first t) first))
   pub room : p.threads ≡ empty.threads
@@ -162,6 +162,7 @@ begins t o ns empty gone places = record {
   gone = gone;
   places = places;
   size = refl;
+  mutexes = refl;
   owners = refl;
   passes = refl;
   room = refl;
@@ -175,6 +176,10 @@ room_for_pass t first empty o ns p mutex i room = by_first (first_in o mutex) re
     by_first : (r : Option ℕ) → first_in o mutex ≡ r → IfSome r (λ _. length p.passes < p.threads)
     by_first None e = tt
     by_first (Some u) e = omega (arith, count_left o.members u (first_waits o mutex u e), i.few, i.size, i.room)
+
+same_mutexes : (mutex : ℕ) (first : Option ℕ) (o : Ownership) → length (pass_edit_to mutex first o).ceilings ≡ length o.ceilings
+same_mutexes mutex None o = refl
+same_mutexes mutex (Some u) o = refl
 
 still_gone : (o : Ownership) (t mutex : ℕ) (first : Option ℕ) → has_thread o t ≡ false → has_thread (pass_edit_to mutex first o) t ≡ false
 still_gone o t mutex first gone = by_test (has_thread (pass_edit_to mutex first o) t) ((keeps_pass mutex first o).there t)
@@ -215,6 +220,7 @@ passes_on t begin empty o ns ms p mutex first i s e head long =
       gone = still_gone o t mutex first i.gone;
       places = long ∙ (keeps_pass mutex first o).size;
       size = sym (keeps_pass mutex first o).size ∙ i.size;
+      mutexes = same_mutexes mutex first o ∙ i.mutexes;
       owners = ap (λ l. pass_edits l (pass_edit_to mutex first o)) rest ∙ ap (pass_edits (drop 1 (owned_in o t))) edit ∙ sym (ap (λ l. pass_edits l o) owned) ∙ i.owners;
       passes = ap (λ l. (passed_to mutex first p).passes ++ map pair_of (filter_map (λ p. p) (passes_from l (pass_edit_to mutex first o)))) rest
           ∙ ap (λ q. (passed_to mutex first p).passes ++ map pair_of (filter_map (λ p. p) (passes_from (drop 1 (owned_in o t)) q))) edit

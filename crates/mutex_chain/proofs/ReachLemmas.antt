@@ -1,19 +1,20 @@
 -- Reach, thread by thread: a thread is in the reach of another one exactly where its chain meets that one.
-use Rattle.std.proofs.Common.{ℕ, ◌≡◌, ◌≢◌, ◌+◌, ◌<◌, ◌≤◌, zero, suc, List, [], ◌∷◌, length, map, Bool, true, false, cond, ◌||◌, eqb, Option, Some, None, refl, sym, ap, ◌∙◌, arith}
+use Rattle.std.proofs.Common.{ℕ, ◌≡◌, ◌≢◌, ◌+◌, ◌<◌, ◌≤◌, zero, suc, List, [], ◌∷◌, length, map, Bool, true, false, cond, ◌||◌, eqb, Option, Some, None, refl, sym, ap, ◌∙◌, arith, ◌⊎◌, inl, inr, ⊎_elim}
 use Rattle.std.specs.Prelude.{filter, fold, min}
 use Rattle.std.specs.List.{range_with_len}
-use Rattle.std.proofs.lemmas.Bool.{eqb-true, eqb-false, ne_eqb, eq-eqb}
+use Rattle.std.proofs.lemmas.Bool.{eqb-true, eqb-false, ne_eqb, cases_lt}
+use Rattle.std.proofs.lemmas.List.{get_or_past}
 use Rattle.std.proofs.lemmas.List.Elements.{filter_agree}
 use Rattle.rt_plain.specs.State.{is_among}
 use Rattle.rt_plain.specs.Priority.{Graph, blocker_of, is_one_of, round_of, rounds_of, reach}
 use Rattle.mutex_chain.specs.Walks.{meets_on, meets}
 
-abbrev hits_on : (ℕ → Bool) → Option ℕ → Bool
+abbrev pub hits_on : (ℕ → Bool) → Option ℕ → Bool
 hits_on further None = false
 hits_on further (Some t) = further t
 
 -- whether a thread is a member, or its chain meets one within so many steps
-abbrev hits : ℕ → (ℕ → Option ℕ) → List ℕ → ℕ → Bool
+abbrev pub hits : ℕ → (ℕ → Option ℕ) → List ℕ → ℕ → Bool
 hits zero next ms x = is_among ms x
 hits (suc k) next ms x = is_among ms x || hits_on (λ v. hits k next ms v) (next x)
 
@@ -34,7 +35,7 @@ not_among p a (suc n) x h = by_test (p a) (not_among p (a + 1) n x (omega arith)
     by_test false r ne = r
 
 -- the numbers of a range that pass a test
-among_range : (p : ℕ → Bool) (a n x : ℕ) → a ≤ x → x < a + n → is_among (filter p (range_with_len a n)) x ≡ p x
+pub among_range : (p : ℕ → Bool) (a n x : ℕ) → a ≤ x → x < a + n → is_among (filter p (range_with_len a n)) x ≡ p x
 among_range p a zero x low high = absurd (omega arith)
 among_range p a (suc n) x low high =
     by_test (eqb a x) refl (p a) refl (λ k. among_range p (a + 1) n x k (omega arith)) (not_among p (a + 1) n x)
@@ -58,9 +59,30 @@ among_range p a (suc n) x low high =
         let other : a ≢ x = eqb-false a x e in
         r (omega arith)
 
--- no chain leaves the numbers of a graph
-abbrev pub IsClosed : Graph → Type 0
-IsClosed g = (x b : ℕ) → blocker_of g x ≡ Some b → b < length g.blockers
+not_above : (p : ℕ → Bool) (a n x : ℕ) → a + n ≤ x → is_among (filter p (range_with_len a n)) x ≡ false
+not_above p a zero x h = refl
+not_above p a (suc n) x h = by_test (p a) (not_above p (a + 1) n x (omega arith)) (ne_eqb a x (λ e. omega arith))
+  where
+    by_test : (b : Bool) → is_among (filter p (range_with_len (a + 1) n)) x ≡ false → eqb a x ≡ false
+        → is_among (cond b (a ∷ filter p (range_with_len (a + 1) n)) (filter p (range_with_len (a + 1) n))) x ≡ false
+    by_test true r ne = ap (λ c. c || is_among (filter p (range_with_len (a + 1) n)) x) ne ∙ r
+    by_test false r ne = r
+
+-- no member stands outside a graph
+abbrev pub IsWithin : Graph → List ℕ → Type 0
+IsWithin g ms = (v : ℕ) → length g.blockers ≤ v → is_among ms v ≡ false
+
+round_within : (g : Graph) (ms : List ℕ) → IsWithin g (round_of g ms)
+round_within g ms = λ v h. not_above (λ t. is_among ms t || is_one_of ms (blocker_of g t)) 0 (length g.blockers) v (omega arith)
+
+-- a thread that waits for nobody is hit only as a member
+pub hits_end : (k : ℕ) (next : ℕ → Option ℕ) (ms : List ℕ) (x : ℕ) → next x ≡ None → hits k next ms x ≡ is_among ms x
+hits_end zero next ms x e = refl
+hits_end (suc k) next ms x e = ap (λ o. is_among ms x || hits_on (λ v. hits k next ms v) o) e ∙ by_test (is_among ms x)
+  where
+    by_test : (b : Bool) → b || false ≡ b
+    by_test true = refl
+    by_test false = refl
 
 one_hit : (ms : List ℕ) (o : Option ℕ) → is_one_of ms o ≡ hits_on (is_among ms) o
 one_hit ms None = refl
@@ -82,35 +104,54 @@ hits_first zero next ms x = by_test (is_among ms x)
     by_test false = refl
 hits_first (suc k) next ms x = absorbed (is_among ms x) (hits_on (λ v. hits k next ms v) (next x))
 
--- one round more at the start is one step more
-hits_round : (k : ℕ) (g : Graph) (ms : List ℕ) (x : ℕ) → IsClosed g → x < length g.blockers
-    → hits k (blocker_of g) (round_of g ms) x ≡ hits (suc k) (blocker_of g) ms x
-hits_round zero g ms x closed h =
-    among_range (λ t. is_among ms t || is_one_of ms (blocker_of g t)) 0 (length g.blockers) x (omega arith) (omega arith)
-    ∙ ap (λ b. is_among ms x || b) (one_hit ms (blocker_of g x))
-hits_round (suc k) g ms x closed h =
-    ap (λ b. b || hits_on (λ v. hits k (blocker_of g) (round_of g ms) v) (blocker_of g x))
-    (among_range (λ t. is_among ms t || is_one_of ms (blocker_of g t)) 0 (length g.blockers) x (omega arith) (omega arith))
-    ∙ or_same (is_among ms x) (is_one_of ms (blocker_of g x)) (hits_on (λ v. hits k (blocker_of g) (round_of g ms) v) (blocker_of g x)) (hits_on (λ v. hits (suc k) (blocker_of g) ms v) (blocker_of g x))
-    (by_next (blocker_of g x) refl (λ v k'. hits_round k g ms v closed k'))
-  where
-    by_next : (o : Option ℕ) → blocker_of g x ≡ o
-        → ((v : ℕ) → v < length g.blockers → hits k (blocker_of g) (round_of g ms) v ≡ hits (suc k) (blocker_of g) ms v)
-        → is_one_of ms o || hits_on (λ v. hits k (blocker_of g) (round_of g ms) v) o ≡ hits_on (λ v. hits (suc k) (blocker_of g) ms v) o
-    by_next None e r = refl
-    by_next (Some v) e r = ap (λ b. is_among ms v || b) (r v (closed x v e)) ∙ hits_first (suc k) (blocker_of g) ms v
+more_next : (j : ℕ) (g : Graph) (ms : List ℕ) → ((v : ℕ) → hits j (blocker_of g) (round_of g ms) v ≡ hits (suc j) (blocker_of g) ms v) → (o : Option ℕ)
+    → is_one_of ms o || hits_on (λ v. hits j (blocker_of g) (round_of g ms) v) o ≡ hits_on (λ v. hits (suc j) (blocker_of g) ms v) o
+more_next j g ms r None = refl
+more_next j g ms r (Some v) = ap (λ b. is_among ms v || b) (r v) ∙ hits_first (suc j) (blocker_of g) ms v
 
-rounds_filter : (k : ℕ) (g : Graph) (ms : List ℕ) → IsClosed g
+past_round : (k : ℕ) (g : Graph) (ms : List ℕ) (x : ℕ) → IsWithin g ms → length g.blockers ≤ x → hits k (blocker_of g) (round_of g ms) x ≡ hits (suc k) (blocker_of g) ms x
+past_round k g ms x within h =
+    let none : blocker_of g x ≡ None = get_or_past g.blockers x None h in
+    hits_end k (blocker_of g) (round_of g ms) x none ∙ round_within g ms x h ∙ sym (hits_end (suc k) (blocker_of g) ms x none ∙ within x h)
+
+-- one round more at the start is one step more
+hits_round : (k : ℕ) (g : Graph) (ms : List ℕ) (x : ℕ) → IsWithin g ms → hits k (blocker_of g) (round_of g ms) x ≡ hits (suc k) (blocker_of g) ms x
+hits_round zero g ms x within = ⊎_elim below (past_round zero g ms x within) (cases_lt x (length g.blockers))
+  where
+    below : x < length g.blockers → hits zero (blocker_of g) (round_of g ms) x ≡ hits 1 (blocker_of g) ms x
+    below h =
+        among_range (λ t. is_among ms t || is_one_of ms (blocker_of g t)) 0 (length g.blockers) x (omega arith) (omega arith)
+        ∙ ap (λ b. is_among ms x || b) (one_hit ms (blocker_of g x))
+hits_round (suc k) g ms x within = ⊎_elim (below (λ v. hits_round k g ms v within)) (past_round (suc k) g ms x within) (cases_lt x (length g.blockers))
+  where
+    below : ((v : ℕ) → hits k (blocker_of g) (round_of g ms) v ≡ hits (suc k) (blocker_of g) ms v) → x < length g.blockers
+        → hits (suc k) (blocker_of g) (round_of g ms) x ≡ hits (suc (suc k)) (blocker_of g) ms x
+    below r h =
+        ap (λ b. b || hits_on (λ v. hits k (blocker_of g) (round_of g ms) v) (blocker_of g x))
+        (among_range (λ t. is_among ms t || is_one_of ms (blocker_of g t)) 0 (length g.blockers) x (omega arith) (omega arith))
+        ∙ or_same (is_among ms x) (is_one_of ms (blocker_of g x)) (hits_on (λ v. hits k (blocker_of g) (round_of g ms) v) (blocker_of g x)) (hits_on (λ v. hits (suc k) (blocker_of g) ms v) (blocker_of g x))
+        (more_next k g ms r (blocker_of g x))
+
+rounds_filter : (k : ℕ) (g : Graph) (ms : List ℕ) → IsWithin g ms
     → rounds_of (suc k) g ms ≡ filter (λ x. hits (suc k) (blocker_of g) ms x) (range_with_len 0 (length g.blockers))
-rounds_filter zero g ms closed =
+rounds_filter zero g ms within =
     filter_agree (λ t. is_among ms t || is_one_of ms (blocker_of g t)) (λ x. hits 1 (blocker_of g) ms x)
     (λ x. ap (λ b. is_among ms x || b) (one_hit ms (blocker_of g x))) (range_with_len 0 (length g.blockers))
-rounds_filter (suc k) g ms closed =
-    rounds_filter k g (round_of g ms) closed
-    ∙ filter_range (λ x. hits (suc k) (blocker_of g) (round_of g ms) x) (λ x. hits (suc (suc k)) (blocker_of g) ms x) 0 (length g.blockers)
-    (λ x low high. hits_round (suc k) g ms x closed (omega arith))
+rounds_filter (suc k) g ms within =
+    rounds_filter k g (round_of g ms) (round_within g ms)
+    ∙ filter_agree (λ x. hits (suc k) (blocker_of g) (round_of g ms) x) (λ x. hits (suc (suc k)) (blocker_of g) ms x)
+    (λ x. hits_round (suc k) g ms x within) (range_with_len 0 (length g.blockers))
 
-hits_meets : (k : ℕ) (next : ℕ → Option ℕ) (t x : ℕ) → hits k next (t ∷ []) x ≡ eqb t x || meets k next x t
+-- the reach of a thread, by hits
+pub reach_hits : (g : Graph) (t : ℕ) → t < length g.blockers
+    → reach g t ≡ filter (λ x. hits (length g.blockers) (blocker_of g) (t ∷ []) x) (range_with_len 0 (length g.blockers))
+reach_hits g t h = by_length (length g.blockers) refl
+  where
+    by_length : (n : ℕ) → length g.blockers ≡ n → rounds_of n g (t ∷ []) ≡ filter (λ x. hits n (blocker_of g) (t ∷ []) x) (range_with_len 0 (length g.blockers))
+    by_length zero e = absurd (omega arith)
+    by_length (suc n) e = rounds_filter n g (t ∷ []) (λ v k. ap (λ b. b || false) (ne_eqb t v (λ s. omega arith)))
+
+pub hits_meets : (k : ℕ) (next : ℕ → Option ℕ) (t x : ℕ) → hits k next (t ∷ []) x ≡ eqb t x || meets k next x t
 hits_meets zero next t x = refl
 hits_meets (suc k) next t x = by_next (next x) (eqb t x) (λ v. hits_meets k next t v)
   where
@@ -122,15 +163,12 @@ hits_meets (suc k) next t x = by_next (next x) (eqb t x) (λ v. hits_meets k nex
     by_next (Some v) false r = r v
 
 -- the reach of a thread: itself, and each one whose chain meets it
-pub reach_is : (g : Graph) (t : ℕ) → IsClosed g → t < length g.blockers
+pub reach_is : (g : Graph) (t : ℕ) → t < length g.blockers
     → reach g t ≡ filter (λ x. eqb t x || meets (length g.blockers) (blocker_of g) x t) (range_with_len 0 (length g.blockers))
-reach_is g t closed h = by_length (length g.blockers) refl
-  where
-    by_length : (n : ℕ) → length g.blockers ≡ n → rounds_of n g (t ∷ []) ≡ filter (λ x. eqb t x || meets n (blocker_of g) x t) (range_with_len 0 (length g.blockers))
-    by_length zero e = absurd (omega arith)
-    by_length (suc n) e =
-        rounds_filter n g (t ∷ []) closed
-        ∙ filter_agree (λ x. hits (suc n) (blocker_of g) (t ∷ []) x) (λ x. eqb t x || meets (suc n) (blocker_of g) x t) (λ x. hits_meets (suc n) (blocker_of g) t x) (range_with_len 0 (length g.blockers))
+reach_is g t h =
+    reach_hits g t h
+    ∙ filter_agree (λ x. hits (length g.blockers) (blocker_of g) (t ∷ []) x) (λ x. eqb t x || meets (length g.blockers) (blocker_of g) x t)
+    (λ x. hits_meets (length g.blockers) (blocker_of g) t x) (range_with_len 0 (length g.blockers))
 
 -- a thread itself changes nothing at a number that isn't above its urgency
 pub self_skip : (urgency : ℕ → ℕ) (t : ℕ) (m : ℕ → Bool) (xs : List ℕ) (a : ℕ) → a ≤ urgency t

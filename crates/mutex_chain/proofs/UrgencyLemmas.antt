@@ -1,6 +1,6 @@
 -- A thread's own urgency, row by row.
-use Rattle.std.proofs.Common.{ℕ, ◌≡◌, ◌<◌, List, [], ◌∷◌, map, Bool, true, false, cond, Option, Some, None, refl, ap}
-use Rattle.std.specs.Prelude.{filter, filter_map, slice_index_or, ◌==◌, min}
+use Rattle.std.proofs.Common.{ℕ, List, map, Option, None}
+use Rattle.std.specs.Prelude.{filter, filter_map, slice_index_or, ◌==◌}
 use Rattle.rt_plain.specs.Priority.{least}
 use Rattle.rt_plain.specs.Ownership.{Taken}
 

@@ -1,3 +1,4 @@
 pub mod Owners
 pub mod Walks
 pub mod Graph
+pub mod Equations

@@ -1,7 +1,7 @@
 -- What the tables of owners and waiters keep.
-use Rattle.std.specs.Prelude.{ℕ, ◌≡◌, ◌≢◌, ◌<◌, ◌≤◌, Bool, true, false, List, length, Option, Some, None, All, slice_index_or, if◌then◌else◌, ◌==◌}
-use Rattle.std.specs.List.{AllPairs}
-use Rattle.std.specs.Option.{option_and_then}
+use Rattle.std.specs.Prelude.{ℕ, ◌≡◌, ◌≢◌, ◌<◌, Bool, true, false, List, length, Option, Some, None, All, slice_index_or, if◌then◌else◌, ◌==◌}
+use Rattle.std.specs.List.{AllPairs, find}
+use Rattle.std.specs.Option.{option_and_then, option_map}
 use Rattle.rt_plain.specs.Ownership.{Ownership, Member, Taken, member_at, is_there, owner_in, awaited_in}
 
 -- whether a thread is there
@@ -38,6 +38,11 @@ pub record IsSound (o : Ownership) : Type 0 where
   pub mutexes : All (λ h. h.mutex < length o.ceilings) o.taken
   pub owners : All (λ h. h.owner < length o.members) o.taken
   pub once : AllPairs (λ a b. a.mutex ≢ b.mutex) o.taken
+
+-- a table of the owners of the mutexes below a number
+pub record AreHolders (taken : List Taken) (mutexes : ℕ) (holders : List (Option ℕ)) : Type 0 where
+  pub places : length holders ≡ mutexes
+  pub owner : (m : ℕ) → m < mutexes → slice_index_or holders m None ≡ option_map (λ h. h.owner) (find (λ h. h.mutex == m) taken)
 
 -- the row of a mutex with another hold
 abbrev pub with_hold : ℕ → ℕ → Taken → Taken

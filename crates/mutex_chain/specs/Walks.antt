@@ -2,7 +2,7 @@
 use Rattle.std.specs.Prelude.{ℕ, ◌≡◌, zero, suc, min, Bool, false, ◌||◌, List, [], ◌∷◌, length, Option, Some, None, map, slice_set, slice_index, ◌==◌}
 use Rattle.std.specs.List.{range_with_len}
 use Rattle.rt_plain.specs.Ownership.{Ownership, member_urgency, cur_in}
-use Rattle.mutex_chain.specs.Owners.{IsSound, blocker_in}
+use Rattle.mutex_chain.specs.Owners.{IsSound}
 
 -- the numbers with a less urgent one replaced by an urgency
 abbrev pub lowered : ℕ → ℕ → List ℕ → List ℕ

@@ -33,7 +33,13 @@ pub fn list_waiters(owners: &Owners, curs: &[u16], mutex: ObjNo, woken: &mut Wok
 }
 
 // Before which place of a line of waiters one more belongs.
-fn place_of(owners: &Owners, curs: &[u16], mutex: ObjNo, waiter: &Waiter, line: &[ThreadNo]) -> usize
+fn place_of(
+    owners: &Owners,
+    curs: &[u16],
+    mutex: ObjNo,
+    waiter: &Waiter,
+    line: &[ThreadNo],
+) -> usize
     requires curs { curs.now ≡ curs_of owners.now }
     requires within { All (λ t. t < length owners.now.members) line.now }
     ensures { result ≡ place_of (row_in owners.now mutex) waiter.now line.now }
@@ -66,9 +72,12 @@ pub fn give_back(owners: &mut Owners, curs: &mut Vec<u16>, thread: ThreadNo, pas
     requires room { length owners.old.members ≤ passes.old.threads }
     ensures owners { owners.new ≡ pass_edits (owned_in owners.old thread) owners.old }
     ensures places { length owners.new.members ≡ length owners.old.members }
+    ensures mutexes { length owners.new.ceilings ≡ length owners.old.ceilings }
     ensures curs { length curs.new.items ≡ length owners.new.members }
-    ensures passes { passes.new ≡ record passes.old { passes =
-        map pair_of (filter_map (λ p. p) (passes_from (owned_in owners.old thread) owners.old)) } }
+    ensures passes { passes.new ≡ record passes.old {
+      passes =
+          map pair_of (filter_map (λ p. p) (passes_from (owned_in owners.old thread) owners.old));
+    } }
 {
     passes.clear();
     while let Some(mutex) = owners.first_owned(thread) {

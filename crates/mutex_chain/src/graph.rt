@@ -96,6 +96,8 @@ impl MutexGraph {
         requires there { IsTrue (has_thread self.old thread) }
         requires room { length self.old.members ≤ out.old.threads }
         ensures graph { self.new ≡ base_edit thread base self.old }
+        ensures threads { length self.new.members ≡ length self.old.members }
+        ensures mutexes { length self.new.ceilings ≡ length self.old.ceilings }
         ensures changes { out.new ≡ record out.old { changes = changes self.old self.new } }
     {
         steps.tick();
@@ -115,6 +117,8 @@ impl MutexGraph {
         requires room { length self.old.members ≤ out.old.threads }
         ensures answer { Some result ≡ ceiling_at self.old mutex }
         ensures graph { self.new ≡ ceiling_edit mutex ceiling self.old }
+        ensures threads { length self.new.members ≡ length self.old.members }
+        ensures mutexes { length self.new.ceilings ≡ length self.old.ceilings }
         ensures changes { out.new ≡ record out.old { changes = changes self.old self.new } }
     {
         steps.tick();
@@ -139,6 +143,8 @@ impl MutexGraph {
         requires room { length self.old.members ≤ out.old.threads }
         ensures answer { result ≡ took_of thread (taken_of self.old mutex) }
         ensures graph { self.new ≡ take_edit thread mutex self.old }
+        ensures threads { length self.new.members ≡ length self.old.members }
+        ensures mutexes { length self.new.ceilings ≡ length self.old.ceilings }
         ensures changes { out.new ≡ record out.old { changes = changes self.old self.new } }
     {
         steps.tick();
@@ -162,6 +168,8 @@ impl MutexGraph {
         requires owned { IsOther thread (owner_in self.old mutex) }
         requires room { length self.old.members ≤ out.old.threads }
         ensures graph { self.new ≡ wait_edit thread mutex at self.old }
+        ensures threads { length self.new.members ≡ length self.old.members }
+        ensures mutexes { length self.new.ceilings ≡ length self.old.ceilings }
         ensures changes { out.new ≡ record out.old { changes = changes self.old self.new } }
     {
         steps.tick();
@@ -175,6 +183,8 @@ impl MutexGraph {
         requires waits { awaited_in self.old thread ≢ None }
         requires room { length self.old.members ≤ out.old.threads }
         ensures graph { self.new ≡ leave_edit thread self.old }
+        ensures threads { length self.new.members ≡ length self.old.members }
+        ensures mutexes { length self.new.ceilings ≡ length self.old.ceilings }
         ensures changes { out.new ≡ record out.old { changes = changes self.old self.new } }
     {
         steps.tick();
@@ -196,6 +206,8 @@ impl MutexGraph {
         requires room { length self.old.members ≤ out.old.threads }
         ensures answer { result ≡ released_of thread (taken_of self.old mutex) (first_in self.old mutex) }
         ensures graph { self.new ≡ release_edit thread mutex self.old }
+        ensures threads { length self.new.members ≡ length self.old.members }
+        ensures mutexes { length self.new.ceilings ≡ length self.old.ceilings }
         ensures changes { out.new ≡ record out.old { changes = changes self.old self.new } }
     {
         steps.tick();
@@ -218,6 +230,8 @@ impl MutexGraph {
         requires room { length self.old.members ≤ out.old.threads }
         ensures woken { woken.new ≡ record woken.old { woken = waiters_in self.old mutex } }
         ensures graph { self.new ≡ kill_mutex_edit mutex self.old }
+        ensures threads { length self.new.members ≡ length self.old.members }
+        ensures mutexes { length self.new.ceilings ≡ length self.old.ceilings }
         ensures changes { out.new ≡ record out.old { changes = changes self.old self.new } }
     {
         steps.tick();
@@ -242,6 +256,8 @@ impl MutexGraph {
         requires room { length self.old.members ≤ out.old.threads }
         ensures passes { passes.new ≡ record passes.old { passes = map pair_of (passes_of thread self.old) } }
         ensures graph { self.new ≡ kill_thread_edit thread self.old }
+        ensures threads { length self.new.members ≡ length self.old.members }
+        ensures mutexes { length self.new.ceilings ≡ length self.old.ceilings }
         ensures changes { out.new ≡ record out.old { changes = changes self.old self.new } }
     {
         steps.tick();
@@ -314,5 +330,24 @@ impl MutexGraph {
         ensures { result ≡ length (waiters_in self.now mutex) }
     {
         count_waiters(&self.owners, mutex)
+    }
+}
+
+#[cfg(test)]
+impl MutexGraph {
+    // Whether a thread is there.
+    pub fn has_thread(&self, thread: ThreadNo) -> bool
+        requires { thread < length self.now.members }
+        ensures { result ≡ has_thread self.now thread }
+    {
+        self.owners.has(thread)
+    }
+
+    // Whether a mutex is there.
+    pub fn has_mutex(&self, mutex: ObjNo) -> bool
+        requires { mutex < length self.now.ceilings }
+        ensures { result ≡ has_mutex self.now mutex }
+    {
+        self.owners.ceiling(mutex).is_some()
     }
 }

@@ -6,9 +6,14 @@ mod changes;
 mod curs;
 mod ends;
 mod graph;
+pub mod laws;
 mod owners;
 mod passes;
+#[cfg(test)]
+mod plain;
 mod rows;
+#[cfg(test)]
+mod tests;
 mod waiter;
 mod woken;
 

@@ -1,7 +1,7 @@
 ghost use Rattle.std.specs.Prelude.{ℕ, ◌≡◌, ◌<◌, ◌≤◌, [], None, Some, length, map, not, ◌==◌, filter, if◌then◌else◌, replicate, slice_set, vec_capacity, IfOk, IfSome, IsTrue};
 ghost use Rattle.std.specs.List.{find};
 ghost use Rattle.std.specs.Option.{is_some, option_map};
-ghost use Rattle.rt_plain.specs.Ownership.{member_at, taken_of, member_urgency, owned_in, with_member, base_edit, member_edit, with_wait, with_mutex_free, with_mutex_got, with_taken_times, wait_of, take_edit, pass_edit_to, first_in, release_edit};
+ghost use Rattle.rt_plain.specs.Ownership.{member_at, taken_of, member_urgency, owned_in, owner_in, with_member, base_edit, member_edit, with_wait, with_mutex_free, with_mutex_got, with_taken_times, wait_of, take_edit, pass_edit_to, first_in, release_edit};
 ghost use Rattle.rt_plain.specs.Waiting.{head_of};
 ghost use Rattle.mutex_chain.specs.Graph.{took_of, released_of, row_in, waiter_with};
 ghost use Rattle.mutex_chain.specs.Owners.{IsSound, has_thread, has_mutex, ceiling_at, blocker_in, with_hold};
@@ -13,25 +13,28 @@ use rt_base::{ObjNo, Prio, ThreadNo};
 use std::alloc::{AllocError, Global};
 use std::marker::Model;
 
-// The threads and the mutexes that are there, by number, and who owns what, last got first.
+// The threads and the mutexes that are there, by number, and who owns what, last got first. `holders` has
+// the owner of each mutex once more, so that one look finds it.
 #[derive(Drop)]
 pub struct Owners {
     members: Vec<Option<MemberRow>>,
     ceilings: Vec<Option<Prio>>,
     taken: Vec<TakenRow>,
+    holders: Vec<Option<ThreadNo>>,
 }
 
 impl Model for Owners {
     ghost use Rattle.std.specs.Prelude.{◌≤◌, length, vec_capacity};
     ghost use Rattle.rt_plain.specs.Ownership.{Ownership};
-    ghost use Rattle.mutex_chain.specs.Owners.{IsSound};
+    ghost use Rattle.mutex_chain.specs.Owners.{IsSound, AreHolders};
 
     ghost Value = { Ownership };
 
     ghost view = { λ o. record { members = o.members.items; ceilings = o.ceilings.items; taken = o.taken.items } };
 
     ghost invariant = { λ o. (length o.ceilings.items ≤ vec_capacity o.taken)
-        × IsSound (record { members = o.members.items; ceilings = o.ceilings.items; taken = o.taken.items }) };
+        × (IsSound (record { members = o.members.items; ceilings = o.ceilings.items; taken = o.taken.items })
+        × AreHolders o.taken.items (length o.ceilings.items) o.holders.items) };
 }
 
 impl Owners {
@@ -42,10 +45,12 @@ impl Owners {
         let members = vec![in alloc; None; threads as usize]?;
         let ceilings = vec![in alloc; None; mutexes as usize]?;
         let taken = Vec::with_capacity(alloc, mutexes as usize)?;
+        let holders = vec![in alloc; None; mutexes as usize]?;
         Ok(Owners {
             members,
             ceilings,
             taken,
+            holders,
         })
     }
 
@@ -96,8 +101,19 @@ impl Owners {
         ensures within { IfSome result (λ owner. owner < length self.now.members) }
     {
         let wait = self.member(thread)?.wait?;
-        let row = self.taken(wait.mutex)?;
-        Some(row.owner)
+        self.holder(wait.mutex)
+    }
+
+    // The owner of a mutex.
+    pub fn holder(&self, mutex: ObjNo) -> Option<ThreadNo>
+        ensures owner { result ≡ owner_in self.now mutex }
+        ensures within { IfSome result (λ owner. owner < length self.now.members) }
+    {
+        let place = mutex.0 as usize;
+        if place >= self.holders.len() {
+            return None;
+        }
+        self.holders[place]
     }
 
     // A thread's own urgency: the least of its base and the ceilings of the mutexes that it owns.
@@ -191,9 +207,11 @@ impl Owners {
 
     // Nobody owns the mutex.
     pub fn free(&mut self, mutex: ObjNo)
+        requires { mutex < length self.old.ceilings }
         ensures { self.new ≡ with_mutex_free mutex self.old }
     {
         self.taken.retain(|row| !row.is_of(mutex));
+        self.holders[mutex.0 as usize] = None;
     }
 
     // A thread owns the mutex, got last.
@@ -209,6 +227,7 @@ impl Owners {
             hold: 1,
         };
         let _ = self.taken.insert(0, row);
+        self.holders[mutex.0 as usize] = Some(thread);
     }
 
     // A thread takes a mutex.
@@ -217,6 +236,8 @@ impl Owners {
         requires mutex { mutex < length self.old.ceilings }
         ensures answer { result ≡ took_of thread (taken_of self.old mutex) }
         ensures edit { self.new ≡ take_edit thread mutex self.old }
+        ensures threads { length self.new.members ≡ length self.old.members }
+        ensures mutexes { length self.new.ceilings ≡ length self.old.ceilings }
     {
         let Some(row) = self.taken(mutex) else {
             self.get(mutex, thread);
@@ -236,7 +257,9 @@ impl Owners {
     pub fn pass(&mut self, mutex: ObjNo, first: Option<ThreadNo>)
         requires mutex { mutex < length self.old.ceilings }
         requires first { IfSome first (λ t. t < length self.old.members) }
-        ensures { self.new ≡ pass_edit_to mutex first self.old }
+        ensures edit { self.new ≡ pass_edit_to mutex first self.old }
+        ensures threads { length self.new.members ≡ length self.old.members }
+        ensures mutexes { length self.new.ceilings ≡ length self.old.ceilings }
     {
         match first {
             None => self.free(mutex),
@@ -254,6 +277,8 @@ impl Owners {
         requires within { IfSome first (λ t. t < length self.old.members) }
         ensures answer { result ≡ released_of thread (taken_of self.old mutex) (first_in self.old mutex) }
         ensures edit { self.new ≡ release_edit thread mutex self.old }
+        ensures threads { length self.new.members ≡ length self.old.members }
+        ensures mutexes { length self.new.ceilings ≡ length self.old.ceilings }
     {
         let Some(row) = self.taken(mutex) else {
             return Released::NotOwner(None);

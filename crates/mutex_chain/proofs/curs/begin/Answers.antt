@@ -1,4 +1,4 @@
-use Rattle.std.proofs.Common.{rules, arith}
+use Rattle.std.proofs.Common.{rules}
 use Rattle.std.proofs.lemmas.List.FromFn.{fill_by_all}
 use Rattle.rt_plain.specs.Ownership.{member_urgency}
 use Rattle.mutex_chain.specs.Walks.{urgencies_of}

@@ -1,5 +1,4 @@
 use Rattle.std.proofs.Common.{◌≡◌, ◌-◌, ◌<◌, length}
-use Rattle.rt_plain.specs.Ownership.{member_urgency}
 use Rattle.mutex_chain.specs.Owners.{blocker_in}
 use Rattle.mutex_chain.specs.Walks.{carried}
 use Rattle.mutex_chain.proofs.curs.carry.Given as goal

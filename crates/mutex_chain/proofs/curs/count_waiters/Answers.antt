@@ -9,10 +9,10 @@ loop-t-preserved c =
     let o = c.args.owners.now in
     let small : c.loop-t.t < length c.args.owners.now.members = omega (arith, c.loop-t-test.true, c.threads-t-end.ensures.count) in
     elim c.if-waits_on.branch [
-      then-waits_on w ↦
+      | then-waits_on w ↦
           let step = count_step o c.args.mutex c.loop-t.t true small (sym c.waits_on.ensures ∙ w.if-waits_on.true) in
           (omega (arith, w.count-is, c.loop-t.invariant.0), omega (arith, w.count-is, c.loop-t.invariant.1, step))
-    | else-waits_on w ↦
+      | else-waits_on w ↦
           let step = count_step o c.args.mutex c.loop-t.t false small (sym c.waits_on.ensures ∙ w.if-waits_on.false) in
           (omega (arith, w.count-is, c.loop-t.invariant.0), omega (arith, w.count-is, c.loop-t.invariant.1, step))
     ]

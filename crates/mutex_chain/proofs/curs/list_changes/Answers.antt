@@ -1,8 +1,6 @@
-use Rattle.std.proofs.Common.{rules, arith, ◌≡◌, ◌+◌, ◌-◌, ◌<◌, ◌++◌, ◌∷◌, [], Some, None, ◌∙◌, sym, ap, length, refl, append_assoc}
-use Rattle.std.proofs.lemmas.Grind.{common_steps}
+use Rattle.std.proofs.Common.{arith, ◌<◌, ◌∙◌, sym, length}
 use Rattle.std.proofs.lemmas.List.{length_push}
-use Rattle.std.specs.List.{filter_map, range_with_len}
-use Rattle.mutex_chain.specs.Graph.{listed_at, ChangeList}
+use Rattle.mutex_chain.specs.Graph.{listed_at}
 use Rattle.mutex_chain.proofs.ChangeLemmas.{list_some, list_none}
 use Rattle.mutex_chain.proofs.curs.list_changes.Goals as goal
 use Rattle.mutex_chain.proofs.curs.list_changes.Goals.{in-Some, in_default}

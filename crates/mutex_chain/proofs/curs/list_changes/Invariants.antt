@@ -1,4 +1,4 @@
-use Rattle.std.proofs.Common.{◌≡◌, ◌+◌, ◌-◌, ◌≤◌, ◌++◌, length}
+use Rattle.std.proofs.Common.{◌≡◌, ◌-◌, ◌≤◌, ◌++◌, length}
 use Rattle.std.specs.List.{filter_map, range_with_len}
 use Rattle.mutex_chain.specs.Graph.{listed_at}
 use Rattle.mutex_chain.proofs.curs.list_changes.Given as goal

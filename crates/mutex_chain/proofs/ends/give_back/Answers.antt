@@ -1,8 +1,5 @@
-use Rattle.std.proofs.Common.{◌≡◌, sym, ap, ◌∙◌}
-use Rattle.std.specs.Option.{IfSome}
-use Rattle.rt_plain.specs.Waiting.{head_of}
-use Rattle.rt_plain.specs.Ownership.{owned_in}
-use Rattle.mutex_chain.proofs.PassLemmas.{IsPassing, begins, room_for_pass, passes_on, fewer_owned}
+use Rattle.std.proofs.Common.{sym}
+use Rattle.mutex_chain.proofs.PassLemmas.{begins, room_for_pass, passes_on, fewer_owned}
 use Rattle.mutex_chain.proofs.ends.give_back.Goals as goal
 
 pub push-requires : goal.push-requires
@@ -10,11 +7,11 @@ push-requires c = rw c.first_waiter-first.ensures.first (room_for_pass c.args.th
 
 pub loop-mutex-smaller : goal.loop-mutex-smaller
 loop-mutex-smaller c =
-    rw c.pass.ensures (fewer_owned c.loop-mutex.owners c.args.thread c.in-Some.mutex c.first_waiter-first.result c.compute.ensures.sound c.loop-mutex.invariant.gone c.first_waiter-first.ensures.first (sym c.in-Some.ensures.mutex))
+    rw c.pass.ensures.edit (fewer_owned c.loop-mutex.owners c.args.thread c.in-Some.mutex c.first_waiter-first.result c.compute.ensures.sound c.loop-mutex.invariant.gone c.first_waiter-first.ensures.first (sym c.in-Some.ensures.mutex))
 
 pub loop-mutex-preserved : goal.loop-mutex-preserved
 loop-mutex-preserved c =
-    rw (c.pass.ensures, c.push.ensures)
+    rw (c.pass.ensures.edit, c.push.ensures)
     (passes_on c.args.thread c.args.owners.now c.args.passes.now c.loop-mutex.owners c.loop-mutex.curs.items c.compute.new.numbers.items c.loop-mutex.passes c.in-Some.mutex c.first_waiter-first.result c.loop-mutex.invariant
     c.compute.ensures.sound c.first_waiter-first.ensures.first (sym c.in-Some.ensures.mutex) c.compute.ensures.places)
 

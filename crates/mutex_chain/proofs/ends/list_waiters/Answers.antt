@@ -1,7 +1,7 @@
-use Rattle.std.proofs.Common.{rules, arith, ◌≡◌, ◌+◌, ◌-◌, ◌<◌, ◌≤◌, Some, None, ◌∙◌, sym, ap, length, refl}
-use Rattle.std.specs.Prelude.{slice_index, All}
+use Rattle.std.proofs.Common.{arith, ◌≡◌, ◌+◌, ◌-◌, ◌<◌, Some, None, ◌∙◌, sym, ap, length, refl}
+use Rattle.std.specs.Prelude.{slice_index}
 use Rattle.std.specs.List.{insert}
-use Rattle.rt_plain.specs.Ownership.{wait_of, waiters_in}
+use Rattle.rt_plain.specs.Ownership.{wait_of}
 use Rattle.mutex_chain.specs.Graph.{place_of, row_in, waiter_with, WokenList}
 use Rattle.mutex_chain.specs.Walks.{curs_of}
 use Rattle.mutex_chain.proofs.CurLemmas.{length-curs}
@@ -12,12 +12,11 @@ pub bounds-curs-t : goal.bounds-curs-t
 bounds-curs-t c = omega (arith, c.loop-t.invariant.0, c.loop-t-test.true, ap length c.requires.curs, length-curs c.args.owners.now)
 
 pub loop-t-init : goal.loop-t-init
-loop-t-init c =
-    (
-      omega (arith, c.threads-t.ensures.count),
-      ap (λ (w : WokenList). w.threads) c.clear.ensures,
-      ap (λ (w : WokenList). w.woken) c.clear.ensures ∙ sym (ap (line_from c.args.owners.now c.args.mutex) c.threads-t.ensures.count ∙ line_end c.args.owners.now c.args.mutex),
-    )
+loop-t-init c = (
+  omega (arith, c.threads-t.ensures.count),
+  ap (λ (w : WokenList). w.threads) c.clear.ensures,
+  ap (λ (w : WokenList). w.woken) c.clear.ensures ∙ sym (ap (line_from c.args.owners.now c.args.mutex) c.threads-t.ensures.count ∙ line_end c.args.owners.now c.args.mutex),
+)
 
 pub place_of-place-requires-clause-within : goal.place_of-place-requires-clause-within
 place_of-place-requires-clause-within c = rw (c.as_slice.ensures, c.loop-t.invariant.2) (line_within c.args.owners.now c.args.mutex c.loop-t.t)
@@ -35,15 +34,14 @@ loop-t-preserved-in-Some c =
     let small : c.loop-t.t - 1 < length c.args.owners.now.members = omega (arith, c.loop-t.invariant.0, c.loop-t-test.true) in
     let next : c.loop-t.t ≡ c.loop-t.t - 1 + 1 = omega (arith, c.loop-t-test.true) in
     let row : waiter_with (slice_index (curs_of c.args.owners.now) (c.loop-t.t - 1)) c.args.mutex (c.loop-t.t - 1) (wait_of c.args.owners.now (c.loop-t.t - 1)) ≡ Some c.in-Some.waiter =
-        sym (ap (λ ns. waiter_with (slice_index ns (c.loop-t.t - 1)) c.args.mutex (c.loop-t.t - 1) (wait_of c.args.owners.now (c.loop-t.t - 1))) c.requires.curs) ∙ sym c.waiter.ensures ∙ c.in-Some.is in
-    let line = c.loop-t.invariant.2 ∙ ap (line_from o c.args.mutex) next in
-    (
+    sym (ap (λ ns. waiter_with (slice_index ns (c.loop-t.t - 1)) c.args.mutex (c.loop-t.t - 1) (wait_of c.args.owners.now (c.loop-t.t - 1))) c.requires.curs) ∙ sym c.waiter.ensures ∙ c.in-Some.is in
+    let line = c.loop-t.invariant.2 ∙ ap (line_from o c.args.mutex) next in (
       omega arith,
       ap (λ (w : WokenList). w.threads) c.insert.ensures ∙ c.loop-t.invariant.1,
       ap (λ (w : WokenList). w.woken) c.insert.ensures
-      ∙ ap (λ p. insert c.loop-t.woken.woken p (c.loop-t.t - 1)) (c.place_of-place.ensures ∙ ap (place_of (row_in o c.args.mutex) c.in-Some.waiter) c.as_slice.ensures)
-      ∙ ap (λ ts. insert ts (place_of (row_in o c.args.mutex) c.in-Some.waiter ts) (c.loop-t.t - 1)) line
-      ∙ line_step o c.args.mutex (c.loop-t.t - 1) c.in-Some.waiter small row,
+          ∙ ap (λ p. insert c.loop-t.woken.woken p (c.loop-t.t - 1)) (c.place_of-place.ensures ∙ ap (place_of (row_in o c.args.mutex) c.in-Some.waiter) c.as_slice.ensures)
+          ∙ ap (λ ts. insert ts (place_of (row_in o c.args.mutex) c.in-Some.waiter ts) (c.loop-t.t - 1)) line
+          ∙ line_step o c.args.mutex (c.loop-t.t - 1) c.in-Some.waiter small row,
     )
 
 pub loop-t-preserved : goal.loop-t-preserved
@@ -52,7 +50,7 @@ loop-t-preserved c =
     let small : c.loop-t.t - 1 < length c.args.owners.now.members = omega (arith, c.loop-t.invariant.0, c.loop-t-test.true) in
     let next : c.loop-t.t ≡ c.loop-t.t - 1 + 1 = omega (arith, c.loop-t-test.true) in
     let row : waiter_with (slice_index (curs_of c.args.owners.now) (c.loop-t.t - 1)) c.args.mutex (c.loop-t.t - 1) (wait_of c.args.owners.now (c.loop-t.t - 1)) ≡ None =
-        sym (ap (λ ns. waiter_with (slice_index ns (c.loop-t.t - 1)) c.args.mutex (c.loop-t.t - 1) (wait_of c.args.owners.now (c.loop-t.t - 1))) c.requires.curs) ∙ sym c.waiter.ensures ∙ c.in_default.is in
+    sym (ap (λ ns. waiter_with (slice_index ns (c.loop-t.t - 1)) c.args.mutex (c.loop-t.t - 1) (wait_of c.args.owners.now (c.loop-t.t - 1))) c.requires.curs) ∙ sym c.waiter.ensures ∙ c.in_default.is in
     (omega arith, c.loop-t.invariant.1, c.loop-t.invariant.2 ∙ ap (line_from o c.args.mutex) next ∙ line_none o c.args.mutex (c.loop-t.t - 1) small row)
 
 pub returns : goal.returns

@@ -1,9 +1,8 @@
-use Rattle.std.proofs.Common.{rules, arith, ◌≡◌, ◌<◌, ◌∙◌, sym, ap, length, true}
+use Rattle.std.proofs.Common.{arith, ◌≡◌, ◌<◌, ◌∙◌, ap, length, true}
 use Rattle.std.specs.Prelude.{min, slice_index}
 use Rattle.std.proofs.lemmas.Grind.{get_or_default_zero}
 use Rattle.rt_plain.specs.Ownership.{cur_in}
 use Rattle.mutex_chain.specs.Owners.{has_thread}
-use Rattle.mutex_chain.specs.Walks.{curs_of}
 use Rattle.mutex_chain.proofs.CurLemmas.{cur_at}
 use Rattle.mutex_chain.proofs.ChangeLemmas.{thread_within, cur_small}
 use Rattle.mutex_chain.proofs.graph.MutexGraph.cur.Goals as goal

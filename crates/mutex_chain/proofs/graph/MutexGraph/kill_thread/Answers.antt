@@ -1,5 +1,5 @@
-use Rattle.std.proofs.Common.{◌≡◌, ap, ◌∙◌, None}
-use Rattle.rt_plain.specs.Ownership.{Ownership, owned_in}
+use Rattle.std.proofs.Common.{◌≡◌, ap, ◌∙◌}
+use Rattle.rt_plain.specs.Ownership.{owned_in}
 use Rattle.mutex_chain.specs.Graph.{Keeps}
 use Rattle.mutex_chain.specs.Walks.{curs_of}
 use Rattle.mutex_chain.proofs.KeepLemmas.{keeps_gone, keeps_passes, keeps_trans}

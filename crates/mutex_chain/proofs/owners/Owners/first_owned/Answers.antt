@@ -1,7 +1,6 @@
-use Rattle.std.proofs.Common.{◌≡◌, ◌<◌, length, ap, ◌∙◌}
+use Rattle.std.proofs.Common.{length}
 use Rattle.std.specs.Prelude.{◌==◌}
 use Rattle.rt_plain.specs.Ownership.{Taken}
-use Rattle.mutex_chain.proofs.CurLemmas.{found_has}
 use Rattle.mutex_chain.proofs.PassLemmas.{find_head, mutex_has}
 use Rattle.mutex_chain.proofs.owners.Owners.first_owned.Goals as goal
 
@@ -10,4 +9,4 @@ returns-clause-mutex c = rw (c.first_owned_by.ensures, c.deref.ensures.value, �
 
 pub returns-clause-within : goal.returns-clause-within
 returns-clause-within c =
-    rw (c.first_owned_by.ensures, c.deref.ensures.value, ← c.self.view_is) (mutex_has (length c.self.inside.ceilings.items) (λ (h : Taken). h.owner == c.args.thread) c.self.inside.taken.items c.self.invariant.1.mutexes)
+    rw (c.first_owned_by.ensures, c.deref.ensures.value, ← c.self.view_is) (mutex_has (length c.self.inside.ceilings.items) (λ (h : Taken). h.owner == c.args.thread) c.self.inside.taken.items c.self.invariant.1.0.mutexes)

@@ -1,8 +1,8 @@
-use Rattle.std.proofs.Common.{rules, arith, ◌≡◌, ◌≢◌, ◌<◌, ◌∷◌, length, refl, ap, ◌∙◌, sym}
+use Rattle.std.proofs.Common.{rules, arith, ◌≡◌, ◌≢◌, ◌<◌, ◌∷◌, length, ap, ◌∙◌}
 use Rattle.std.specs.Prelude.{All}
 use Rattle.std.proofs.lemmas.Grind.{common_steps}
-use Rattle.rt_plain.specs.Ownership.{Ownership, Taken, with_mutex_free, with_mutex_got}
-use Rattle.mutex_chain.specs.Owners.{IsSound}
+use Rattle.rt_plain.specs.Ownership.{Ownership, Taken, with_mutex_free}
+use Rattle.mutex_chain.proofs.HolderLemmas.{holders_push}
 use Rattle.mutex_chain.proofs.OwnerLemmas.{others, others_apart, sound_push}
 use Rattle.mutex_chain.proofs.owners.Owners.get.Goals as goal
 
@@ -14,11 +14,16 @@ invariant_of-self c =
     let mutexes : length o.ceilings ≡ length c.args.self.now.ceilings = ap (λ (p : Ownership). length p.ceilings) free in
     let rows : o.taken ≡ others c.args.mutex c.args.self.now.taken = ap (λ (p : Ownership). p.taken) free in
     let apart : All (λ h. c.args.mutex ≢ h.mutex) o.taken = rw rows (others_apart c.args.mutex c.args.self.now.taken) in
-    let pushed = sound_push o c.args.mutex c.args.thread c.self.invariant.1 apart (omega (arith, c.requires.mutex)) (omega (arith, c.requires.thread)) in
+    let pushed = sound_push o c.args.mutex c.args.thread c.self.invariant.1.0 apart (omega (arith, c.requires.mutex)) (omega (arith, c.requires.thread)) in
     let room : length c.self.inside.taken.items < length c.self.inside.ceilings.items = pushed.1 in
     let row : Taken = record { mutex = c.args.mutex; owner = c.args.thread; hold = 1 } in
-    let items : c.insert.new.self.items ≡ row ∷ c.self.inside.taken.items = search (rules, common_steps) in
-    (omega (arith, c.insert.ensures.capacity, c.self.invariant.0), rw items pushed.0)
+    let items : c.insert.new.self.items ≡ row ∷ c.self.inside.taken.items = search (rules, common_steps) in (
+      omega (arith, c.insert.ensures.capacity, c.self.invariant.0),
+      (
+        rw items pushed.0,
+        rw (items, c.mutex.view_is) (holders_push c.self.inside.taken.items _ c.args.mutex c.args.thread c.self.inside.holders.items (omega (arith, c.requires.mutex)) c.self.invariant.1.1),
+      ),
+    )
 
 pub returns : goal.returns
 returns c =
@@ -28,7 +33,7 @@ returns c =
     let mutexes : length o.ceilings ≡ length c.args.self.now.ceilings = ap (λ (p : Ownership). length p.ceilings) free in
     let rows : o.taken ≡ others c.args.mutex c.args.self.now.taken = ap (λ (p : Ownership). p.taken) free in
     let apart : All (λ h. c.args.mutex ≢ h.mutex) o.taken = rw rows (others_apart c.args.mutex c.args.self.now.taken) in
-    let pushed = sound_push o c.args.mutex c.args.thread c.self.invariant.1 apart (omega (arith, c.requires.mutex)) (omega (arith, c.requires.thread)) in
+    let pushed = sound_push o c.args.mutex c.args.thread c.self.invariant.1.0 apart (omega (arith, c.requires.mutex)) (omega (arith, c.requires.thread)) in
     let room : length c.self.inside.taken.items < length c.self.inside.ceilings.items = pushed.1 in
     let row : Taken = record { mutex = c.args.mutex; owner = c.args.thread; hold = 1 } in
     let items : c.insert.new.self.items ≡ row ∷ c.self.inside.taken.items = search (rules, common_steps) in

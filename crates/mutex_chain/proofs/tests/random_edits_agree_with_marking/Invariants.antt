@@ -1,0 +1,4 @@
+use Rattle.mutex_chain.proofs.tests.random_edits_agree_with_marking.Given as goal
+
+abbrev pub ghosts-random_edits : goal.ghosts-random_edits
+ghosts-random_edits g a = record { name = a.blank.name; parts = a.blank.parts }

@@ -1,0 +1,23 @@
+-- The equations of owners and waiters, and graphs that differ at some threads alone.
+use Rattle.std.specs.Prelude.{ℕ, ◌≡◌, ◌<◌, true, false, List, [], ◌∷◌, length, map, filter}
+use Rattle.std.specs.List.{range_with_len}
+use Rattle.rt_plain.specs.State.{is_among}
+use Rattle.rt_plain.specs.Priority.{Graph, blocker_of, urgency_of, is_one_of, least, reach}
+
+-- the threads that wait for a thread
+abbrev pub waits_for : Graph → ℕ → List ℕ
+waits_for g t = filter (λ x. is_one_of (t ∷ []) (blocker_of g x)) (range_with_len 0 (length g.blockers))
+
+-- each thread's number is the least of its own urgency and the numbers of those that wait for it
+abbrev pub IsSolution : Graph → (ℕ → ℕ) → Type 0
+IsSolution g f = (t : ℕ) → t < length g.blockers → f t ≡ least (urgency_of g t) (map f (waits_for g t))
+
+-- two graphs differ at these threads alone
+pub record SameBut (touched : List ℕ) (g h : Graph) : Type 0 where
+  pub size : length g.blockers ≡ length h.blockers
+  pub blockers : (x : ℕ) → is_among touched x ≡ false → blocker_of g x ≡ blocker_of h x
+  pub urgencies : (x : ℕ) → is_among touched x ≡ false → urgency_of g x ≡ urgency_of h x
+
+-- no chain of one of these threads leads to a thread
+abbrev pub IsAway : List ℕ → Graph → ℕ → Type 0
+IsAway touched g t = (x : ℕ) → is_among touched x ≡ true → is_among (reach g t) x ≡ false
