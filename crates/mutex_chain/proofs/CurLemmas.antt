@@ -69,10 +69,10 @@ blocker_within o x b s e = by_mutex (awaited_in o x) e
     by_mutex None e = absurd (none-some b e)
     by_mutex (Some m) e = owner_within o m b s e
 
-abbrev awaited_by : Option Member → Option ℕ
+abbrev pub awaited_by : Option Member → Option ℕ
 awaited_by m = option_map (λ (w : MutexWait). w.mutex) (option_and_then (λ (m : Member). m.wait) m)
 
-blocker_same : (o : Ownership) (t : ℕ) → blocker_of (graph_in o) t ≡ blocker_in o t
+pub blocker_same : (o : Ownership) (t : ℕ) → blocker_of (graph_in o) t ≡ blocker_in o t
 blocker_same o t = by_size (cases_lt t (length o.members))
   where
     by_size : (t < length o.members) ⊎ (length o.members ≤ t) → blocker_of (graph_in o) t ≡ blocker_in o t

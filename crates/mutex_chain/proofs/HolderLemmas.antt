@@ -1,10 +1,10 @@
 -- The table of owners by mutex.
-use Rattle.std.proofs.Common.{ℕ, ◌≡◌, ◌≢◌, ◌<◌, ◌≤◌, List, [], ◌∷◌, length, map, get_or, set, Bool, true, false, not, cond, eqb, Option, Some, None, refl, sym, ap, ◌∙◌, arith, ◌⊎◌, inl, inr, get_or-set_same, get_or-set_other}
-use Rattle.std.specs.Prelude.{filter, All, ◌==◌, slice_set}
+use Rattle.std.proofs.Common.{ℕ, ◌≡◌, ◌≢◌, ◌<◌, ◌≤◌, List, [], ◌∷◌, length, map, get_or, Bool, true, false, not, cond, eqb, Option, Some, None, refl, sym, ap, ◌∙◌, arith, ◌⊎◌, inl, inr, get_or-set_same, get_or-set_other}
+use Rattle.std.specs.Prelude.{All, ◌==◌, slice_set}
 use Rattle.std.specs.List.{find}
 use Rattle.std.specs.Option.{IfSome, option_map}
 use Rattle.std.proofs.Math.ListN.{length-set}
-use Rattle.std.proofs.lemmas.Bool.{eqb-true, eqb-false, ne_eqb, eq-eqb, cases_eq}
+use Rattle.std.proofs.lemmas.Bool.{eqb-true, ne_eqb, eq-eqb, cases_eq}
 use Rattle.std.proofs.lemmas.List.Elements.{All-head, All-tail}
 use Rattle.rt_plain.specs.Ownership.{Taken}
 use Rattle.mutex_chain.specs.Owners.{AreHolders, with_hold}
@@ -15,7 +15,7 @@ use Rattle.mutex_chain.proofs.OwnerLemmas.{others}
 abbrev pub owner_among : List Taken → ℕ → Option ℕ
 owner_among hs m = option_map (λ h. h.owner) (find (λ h. h.mutex == m) hs)
 
-others_none : (m : ℕ) (hs : List Taken) → owner_among (others m hs) m ≡ None
+pub others_none : (m : ℕ) (hs : List Taken) → owner_among (others m hs) m ≡ None
 others_none m [] = refl
 others_none m (h ∷ hs) = by_test (h.mutex == m) refl (others_none m hs)
   where
@@ -23,7 +23,7 @@ others_none m (h ∷ hs) = by_test (h.mutex == m) refl (others_none m hs)
     by_test true e r = r
     by_test false e r = ap (λ c. option_map (λ (h : Taken). h.owner) (cond c (Some h) (find (λ h. h.mutex == m) (others m hs)))) e ∙ r
 
-others_other : (m k : ℕ) (hs : List Taken) → k ≢ m → owner_among (others m hs) k ≡ owner_among hs k
+pub others_other : (m k : ℕ) (hs : List Taken) → k ≢ m → owner_among (others m hs) k ≡ owner_among hs k
 others_other m k [] ne = refl
 others_other m k (h ∷ hs) ne = by_test (h.mutex == m) refl (others_other m k hs ne)
   where
@@ -70,7 +70,7 @@ holders_push hs n m t holders h a = record {
         get_or-set_other holders m k (Some t) None ne ∙ a.owner k j
         ∙ sym (ap (λ c. option_map (λ (h : Taken). h.owner) (cond c (Some (record { mutex = m; owner = t; hold = 1 })) (find (λ h. h.mutex == k) hs))) (ne_eqb m k (λ s. ne (sym s))))
 
-same_owner : (m hold k : ℕ) (hs : List Taken) → owner_among (map (with_hold m hold) hs) k ≡ owner_among hs k
+pub same_owner : (m hold k : ℕ) (hs : List Taken) → owner_among (map (with_hold m hold) hs) k ≡ owner_among hs k
 same_owner m hold k [] = refl
 same_owner m hold k (h ∷ hs) = by_test (h.mutex == m) refl (same_owner m hold k hs)
   where

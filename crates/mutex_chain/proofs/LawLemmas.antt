@@ -2,12 +2,12 @@
 use Rattle.std.proofs.Common.{ℕ, ◌≡◌, ◌≢◌, ◌+◌, ◌<◌, ◌≤◌, zero, suc, List, [], ◌∷◌, length, map, Bool, true, false, cond, ◌||◌, eqb, Option, Some, None, refl, sym, ap, ◌∙◌, arith, ◌⊎◌, inl, inr, ⊎_elim}
 use Rattle.std.specs.Prelude.{filter, fold, min}
 use Rattle.std.specs.List.{range_with_len}
-use Rattle.std.proofs.lemmas.Bool.{eqb-true, ne_eqb, eq-eqb, false≢true, cases_lt, cases_Bool, or_cases, or_left, or_right}
+use Rattle.std.proofs.lemmas.Bool.{eqb-true, eq-eqb, false≢true, cases_lt, cases_Bool, or_cases, or_left, or_right}
 use Rattle.std.proofs.lemmas.Option.{none-some}
 use Rattle.std.proofs.lemmas.List.{get_or_past}
 use Rattle.rt_plain.specs.State.{is_among}
 use Rattle.rt_plain.specs.Priority.{Graph, blocker_of, urgency_of, is_one_of, reach, least, cur_of}
-use Rattle.mutex_chain.specs.Equations.{waits_for, IsSolution, SameBut, IsAway}
+use Rattle.mutex_chain.specs.Equations.{waits_for, IsSolution, SameBut, IsAway, IsTouched}
 use Rattle.mutex_chain.proofs.ReachLemmas.{hits, hits_on, hits_end, reach_hits, among_range}
 
 -- whether the chain of a thread meets another one within so many steps, or is that one
@@ -307,6 +307,9 @@ untouched touched h t y away small r =
     let inside : y < length h.blockers = reach_within (length h.blockers) h t y small r in
     ⊎_elim (λ e. absurd (false≢true (sym (away y e) ∙ reach_among h t y small inside ∙ r))) (λ e. e) (cases_Bool (is_among touched y))
 
+touched_some : (touched : List ℕ) (o : Option ℕ) (v : ℕ) → o ≡ Some v → IsTouched touched o → is_among touched v ≡ true
+touched_some touched o v e h = rw e at h
+
 -- the reach in one graph is in the reach in the other, away from what differs
 same_reach : (k : ℕ) (touched : List ℕ) (g h : Graph) (t y : ℕ) → SameBut touched g h → IsAway touched h t → t < length h.blockers → meets_in k h t y ≡ true → meets_in k g t y ≡ true
 same_reach zero touched g h t y s away small r = r
@@ -317,7 +320,12 @@ same_reach (suc k) touched g h t y s away small r =
     further again m =
         let w = went_on (λ v. meets_in k h t v) (blocker_of h y) m in
         or_right (is_among (t ∷ []) y) (hits_on (λ v. meets_in k g t v) (blocker_of g y))
-        (go_on (λ v. meets_in k g t v) (blocker_of g y) w.0 (s.blockers y (untouched touched h t y away small (any_steps (suc k) h t y small r)) ∙ w.1) (again w.0 w.2))
+        (go_on (λ v. meets_in k g t v) (blocker_of g y) w.0 (by_case w.0 w.1 w.2 (s.blockers y (untouched touched h t y away small (any_steps (suc k) h t y small r)))) (again w.0 w.2))
+      where
+        by_case : (v : ℕ) → blocker_of h y ≡ Some v → meets_in k h t v ≡ true
+            → (blocker_of g y ≡ blocker_of h y) ⊎ (IsTouched touched (blocker_of g y) × IsTouched touched (blocker_of h y)) → blocker_of g y ≡ Some v
+        by_case v e there (inl same) = same ∙ e
+        by_case v e there (inr both) = absurd (false≢true (sym (untouched touched h t v away small (any_steps k h t v small there)) ∙ touched_some touched (blocker_of h y) v e both.1))
 
 pub less_away : (touched : List ℕ) (g h : Graph) (t : ℕ) → SameBut touched g h → IsAway touched h t → t < length g.blockers → cur_of g t ≤ cur_of h t
 less_away touched g h t s away small =
@@ -332,7 +340,12 @@ less_away touched g h t s away small =
     follows a b c x y = omega arith
 
 turned : (touched : List ℕ) (g h : Graph) → SameBut touched g h → SameBut touched h g
-turned touched g h s = record { size = sym s.size; blockers = λ x e. sym (s.blockers x e); urgencies = λ x e. sym (s.urgencies x e) }
+turned touched g h s = record { size = sym s.size; blockers = λ x e. by_case x (s.blockers x e); urgencies = λ x e. sym (s.urgencies x e) }
+  where
+    by_case : (x : ℕ) → (blocker_of g x ≡ blocker_of h x) ⊎ (IsTouched touched (blocker_of g x) × IsTouched touched (blocker_of h x))
+        → (blocker_of h x ≡ blocker_of g x) ⊎ (IsTouched touched (blocker_of h x) × IsTouched touched (blocker_of g x))
+    by_case x (inl e) = inl (sym e)
+    by_case x (inr both) = inr (both.1, both.0)
 
 pub same_away : (touched : List ℕ) (g h : Graph) (t : ℕ) → SameBut touched g h → t < length g.blockers → IsAway touched g t → IsAway touched h t → cur_of g t ≡ cur_of h t
 same_away touched g h t s small a b =

@@ -8,5 +8,6 @@ pub mod CurLemmas
 pub mod OwnerLemmas
 pub mod PassLemmas
 pub mod ReachLemmas
+pub mod TouchLemmas
 pub mod UrgencyLemmas
 pub mod WalkLemmas

@@ -19,7 +19,7 @@ Apart a b = a.mutex ≢ b.mutex
 pub apart_head : (h : Taken) (hs : List Taken) → AllPairs Apart (h ∷ hs) → All (Apart h) hs
 apart_head h hs p = λ i d k. p 0 (suc i) d (omega arith) (omega arith)
 
-apart_tail : (h : Taken) (hs : List Taken) → AllPairs Apart (h ∷ hs) → AllPairs Apart hs
+pub apart_tail : (h : Taken) (hs : List Taken) → AllPairs Apart (h ∷ hs) → AllPairs Apart hs
 apart_tail h hs p = λ i j d k m. p (suc i) (suc j) d (omega arith) (omega arith)
 
 pub others_same : (mutex : ℕ) (hs : List Taken) → All (λ h. mutex ≢ h.mutex) hs → others mutex hs ≡ hs

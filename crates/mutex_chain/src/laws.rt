@@ -1,8 +1,10 @@
 //! Laws of current priorities: each is the contract of a function that does nothing.
-ghost use Rattle.std.specs.Prelude.{ℕ, ◌≡◌, ◌≢◌, ◌<◌, ◌≤◌, List, Some, true, length};
+ghost use Rattle.std.specs.Prelude.{ℕ, ◌≡◌, ◌≢◌, ◌<◌, ◌≤◌, List, [], ◌∷◌, Some, true, length};
 ghost use Rattle.rt_plain.specs.State.{is_among};
 ghost use Rattle.rt_plain.specs.Priority.{Graph, blocker_of, urgency_of, reach, cur_of};
-ghost use Rattle.mutex_chain.specs.Equations.{IsSolution, SameBut, IsAway};
+ghost use Rattle.rt_plain.specs.Ownership.{Ownership, base_edit, cur_in, graph_in, leave_edit, release_edit, take_edit, wait_edit};
+ghost use Rattle.rt_plain.specs.Weight.{release_touches};
+ghost use Rattle.mutex_chain.specs.Equations.{IsSolution, SameBut, IsAway, IsOnce, Touches};
 
 /// A thread that nobody waits for has its own urgency.
 pub fn unreached_threads_have_their_own_urgency()
@@ -26,8 +28,23 @@ pub fn threads_of_a_cycle_have_one_priority()
 {}
 
 /// Where two graphs differ at some threads alone, a thread that no chain of these leads to has the same
-/// current priority in both.
+/// current priority in both. A thread that waits for one of these may wait for another one of them, or for
+/// nobody.
 pub fn current_priorities_change_along_chains()
     ensures { (touched : List ℕ) (g h : Graph) (t : ℕ) → SameBut touched g h → t < length g.blockers →
         IsAway touched g t → IsAway touched h t → cur_of g t ≡ cur_of h t }
+{}
+
+/// An edit changes current priorities only along chains of owners from the threads that it touches: the
+/// thread that it names, and the one that a release passes a mutex to.
+pub fn edits_change_priorities_along_chains()
+    ensures kept { (touched : List ℕ) (before after : Ownership) (t : ℕ) → Touches touched before after →
+        t < length before.members → IsAway touched (graph_in before) t → IsAway touched (graph_in after) t →
+        cur_in before t ≡ cur_in after t }
+    ensures set_base { (t base : ℕ) (o : Ownership) → Touches (t ∷ []) o (base_edit t base o) }
+    ensures take { (t mutex : ℕ) (o : Ownership) → Touches (t ∷ []) o (take_edit t mutex o) }
+    ensures wait { (t mutex at : ℕ) (o : Ownership) → Touches (t ∷ []) o (wait_edit t mutex at o) }
+    ensures leave { (t : ℕ) (o : Ownership) → Touches (t ∷ []) o (leave_edit t o) }
+    ensures release { (t mutex : ℕ) (o : Ownership) → IsOnce o →
+        Touches (release_touches o t mutex) o (release_edit t mutex o) }
 {}

@@ -1,4 +1,4 @@
-use Rattle.std.proofs.Common.{arith, ◌≡◌, ◌<◌, ◌≤◌, length, None, Option, ℕ, sym, ap, ◌∙◌}
+use Rattle.std.proofs.Common.{arith, ◌≡◌, ◌<◌, ◌≤◌, length, None, sym, ◌∙◌}
 use Rattle.std.proofs.lemmas.List.{get_or_read}
 use Rattle.mutex_chain.proofs.HolderLemmas.{owner_among, no_owner, owner_has}
 use Rattle.mutex_chain.proofs.owners.Owners.holder.Goals as goal
