@@ -83,10 +83,10 @@ rest_owned mutex ms (h ∷ hs) p e =
     ∙ rest
 
 -- the mutexes that a thread owns, one of them being free
-owned_free : (o : Ownership) (t mutex : ℕ) (ms : List ℕ) → IsSound o → owned_in o t ≡ mutex ∷ ms → map (λ h. h.mutex) (filter (λ h. h.owner == t) (others mutex o.taken)) ≡ ms
+owned_free : (o : Ownership) (t mutex : ℕ) (ms : List ℕ) → AllPairs Apart o.taken → owned_in o t ≡ mutex ∷ ms → map (λ h. h.mutex) (filter (λ h. h.owner == t) (others mutex o.taken)) ≡ ms
 owned_free o t mutex ms s e =
     ap (map (λ (h : Taken). h.mutex)) (filter_swap t mutex o.taken)
-    ∙ rest_owned mutex ms (filter (λ h. h.owner == t) o.taken) (AllPairs-filter Apart (λ (h : Taken). h.owner == t) o.taken s.once) e
+    ∙ rest_owned mutex ms (filter (λ h. h.owner == t) o.taken) (AllPairs-filter Apart (λ (h : Taken). h.owner == t) o.taken s) e
 
 row_waits : (o : Ownership) (mutex t : ℕ) (w : Waiter) → row_in o mutex t ≡ Some w → waits (member_at o t) ≡ true
 row_waits o mutex t w e = by_member (member_at o t) e
@@ -108,7 +108,7 @@ first_waits o mutex u e = by_line (in_order WaitOrder.Prio (wait_rows_in o mutex
     by_line (w ∷ ws) rs k = let same : w.thread ≡ u = cc in row_waits o mutex u w (sym (ap (row_in o mutex) same) ∙ rs.0)
 
 -- who got a mutex isn't a thread that is gone
-owned_passed : (o : Ownership) (t mutex : ℕ) (ms : List ℕ) (first : Option ℕ) → IsSound o → has_thread o t ≡ false → first ≡ first_in o mutex → owned_in o t ≡ mutex ∷ ms
+pub owned_passed : (o : Ownership) (t mutex : ℕ) (ms : List ℕ) (first : Option ℕ) → AllPairs Apart o.taken → has_thread o t ≡ false → first ≡ first_in o mutex → owned_in o t ≡ mutex ∷ ms
     → owned_in (pass_edit_to mutex first o) t ≡ ms
 owned_passed o t mutex ms None s gone e at = owned_free o t mutex ms s at
 owned_passed o t mutex ms (Some u) s gone e at =
@@ -181,7 +181,7 @@ same_mutexes : (mutex : ℕ) (first : Option ℕ) (o : Ownership) → length (pa
 same_mutexes mutex None o = refl
 same_mutexes mutex (Some u) o = refl
 
-still_gone : (o : Ownership) (t mutex : ℕ) (first : Option ℕ) → has_thread o t ≡ false → has_thread (pass_edit_to mutex first o) t ≡ false
+pub still_gone : (o : Ownership) (t mutex : ℕ) (first : Option ℕ) → has_thread o t ≡ false → has_thread (pass_edit_to mutex first o) t ≡ false
 still_gone o t mutex first gone = by_test (has_thread (pass_edit_to mutex first o) t) ((keeps_pass mutex first o).there t)
   where
     by_test : (b : Bool) → (b ≡ true → has_thread o t ≡ true) → b ≡ false
@@ -214,7 +214,7 @@ pub passes_on : (t : ℕ) (begin : Ownership) (empty : PassList) (o : Ownership)
     → IsPassing t begin empty (pass_edit_to mutex first o) ms (passed_to mutex first p)
 passes_on t begin empty o ns ms p mutex first i s e head long =
     let owned : owned_in o t ≡ mutex ∷ drop 1 (owned_in o t) = head_split (owned_in o t) mutex head in
-    let rest : owned_in (pass_edit_to mutex first o) t ≡ drop 1 (owned_in o t) = owned_passed o t mutex (drop 1 (owned_in o t)) first s i.gone e owned in
+    let rest : owned_in (pass_edit_to mutex first o) t ≡ drop 1 (owned_in o t) = owned_passed o t mutex (drop 1 (owned_in o t)) first s.once i.gone e owned in
     let edit : pass_edit_to mutex first o ≡ pass_edit mutex o = ap (λ r. pass_edit_to mutex r o) e in
     record {
       gone = still_gone o t mutex first i.gone;
@@ -235,4 +235,4 @@ pub fewer_owned : (o : Ownership) (t mutex : ℕ) (first : Option ℕ) → IsSou
     → length (owned_in (pass_edit_to mutex first o) t) < length (owned_in o t)
 fewer_owned o t mutex first s gone e head =
     let owned : owned_in o t ≡ mutex ∷ drop 1 (owned_in o t) = head_split (owned_in o t) mutex head in
-    omega (arith, ap length owned, ap length (owned_passed o t mutex (drop 1 (owned_in o t)) first s gone e owned))
+    omega (arith, ap length owned, ap length (owned_passed o t mutex (drop 1 (owned_in o t)) first s.once gone e owned))

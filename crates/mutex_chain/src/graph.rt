@@ -29,7 +29,7 @@ use std::sync::ledger::Ledger;
 /// after it and whose current priority it changed, in thread order, with both numbers; what the list
 /// held before is dropped. It has to have been made for at least as many threads as the graph.
 ///
-/// Only `new` takes memory. `steps` counts reads of rows; how many is not said yet.
+/// Only `new` takes memory. Each edit raises `steps`; by how much is not said yet.
 #[derive(Drop)]
 pub struct MutexGraph {
     owners: Owners,

@@ -2,8 +2,8 @@
 ghost use Rattle.std.specs.Prelude.{ℕ, ◌≡◌, ◌≢◌, ◌<◌, ◌≤◌, List, [], ◌∷◌, Some, true, length};
 ghost use Rattle.rt_plain.specs.State.{is_among};
 ghost use Rattle.rt_plain.specs.Priority.{Graph, blocker_of, urgency_of, reach, cur_of};
-ghost use Rattle.rt_plain.specs.Ownership.{Ownership, base_edit, cur_in, graph_in, leave_edit, release_edit, take_edit, wait_edit};
-ghost use Rattle.rt_plain.specs.Weight.{release_touches};
+ghost use Rattle.rt_plain.specs.Ownership.{Ownership, base_edit, ceiling_edit, cur_in, graph_in, kill_mutex_edit, kill_thread_edit, leave_edit, release_edit, take_edit, wait_edit};
+ghost use Rattle.rt_plain.specs.Weight.{ceiling_touches, end_touches, mutex_end_touches, release_touches};
 ghost use Rattle.mutex_chain.specs.Equations.{IsSolution, SameBut, IsAway, IsOnce, Touches};
 
 /// A thread that nobody waits for has its own urgency.
@@ -36,7 +36,8 @@ pub fn current_priorities_change_along_chains()
 {}
 
 /// An edit changes current priorities only along chains of owners from the threads that it touches: the
-/// thread that it names, and the one that a release passes a mutex to.
+/// thread that it names, those that it passes a mutex to, the owner of a mutex whose ceiling changes, and
+/// the owner and the waiters of a mutex that ends.
 pub fn edits_change_priorities_along_chains()
     ensures kept { (touched : List ℕ) (before after : Ownership) (t : ℕ) → Touches touched before after →
         t < length before.members → IsAway touched (graph_in before) t → IsAway touched (graph_in after) t →
@@ -47,4 +48,10 @@ pub fn edits_change_priorities_along_chains()
     ensures leave { (t : ℕ) (o : Ownership) → Touches (t ∷ []) o (leave_edit t o) }
     ensures release { (t mutex : ℕ) (o : Ownership) → IsOnce o →
         Touches (release_touches o t mutex) o (release_edit t mutex o) }
+    ensures set_ceiling { (mutex ceiling : ℕ) (o : Ownership) → IsOnce o →
+        Touches (ceiling_touches o mutex) o (ceiling_edit mutex ceiling o) }
+    ensures kill_mutex { (mutex : ℕ) (o : Ownership) → IsOnce o →
+        Touches (mutex_end_touches o mutex) o (kill_mutex_edit mutex o) }
+    ensures kill_thread { (t : ℕ) (o : Ownership) → IsOnce o →
+        Touches (end_touches o t) o (kill_thread_edit t o) }
 {}
