@@ -1,19 +1,18 @@
 -- What the test of a built board says.
-use Rattle.std.proofs.Common.{◌≡◌, ℕ, zero, suc, ◌+◌, ◌-◌, ◌≤◌, ◌<◌, ◌&&◌, eqb, leb, ltb, length, arith, List, [], ◌∷◌, Option, Some, None, Bool, true, false, not, refl, sym, ap, subst, ◌∙◌, IsTrue}
-use Rattle.std.specs.Prelude.{IfSome, is_some, unwrap_or, slice_get, nat_lt, nat_le}
+use Rattle.std.proofs.Common.{◌≡◌, ℕ, zero, suc, ◌-◌, ◌≤◌, ◌<◌, ◌&&◌, eqb, leb, ltb, length, arith, List, [], ◌∷◌, Option, Some, None, Bool, true, false, not, refl, IsTrue}
+use Rattle.std.specs.Prelude.{is_some, unwrap_or, slice_get}
 use Rattle.std.specs.List.{list_all, find, AllByRecursion}
 use Rattle.std.specs.Option.{option_map}
 use Rattle.std.specs.Str.{bytes_eq}
 use Rattle.std.proofs.lemmas.List.Elements.{All-from_recursion, All-nil}
 use Rattle.rt_plain.specs.declared.board.ThreadDef.{ThreadDef}
-use Rattle.rt_plain.specs.declared.board.TimerDef.{TimerDef}
 use Rattle.rt_plain.specs.declared.stmt.Call.{Call}
 use Rattle.rt_plain.specs.declared.stmt.Stmt.{Stmt}
 use Rattle.rt_plain.specs.PlainBoard.{PlainBoard}
 use Rattle.rt_plain.specs.Statements.{script_of, statement_at}
-use Rattle.rt_plain.specs.Sound.{is_timed, is_timed_call, IsProper, IsSized}
+use Rattle.rt_plain.specs.Sound.{is_timed, IsProper, IsSized}
 use Rattle.rt_plain.proofs.TallyLemmas.{all-found}
-use Rattle.rt_kernel.specs.Built.{is_built, IsBuilt, is_built_thread, is_built_statement, is_built_call}
+use Rattle.rt_kernel.specs.Built.{is_built, IsBuilt, is_built_thread, is_built_statement}
 
 no_items : {A : Type 0} (xs : List A) → eqb (length xs) 0 ≡ true → xs ≡ []
 no_items [] is = refl

@@ -1,24 +1,21 @@
 -- What the kernel's invariant says of its records.
-use Rattle.std.proofs.Common.{◌≡◌, ◌≢◌, ◌⊎◌, inl, inr, ◌+◌, ◌≤◌, ◌<◌, ◌&&◌, ◌||◌, ℕ, zero, suc, List, [], ◌∷◌, ◌++◌, Option, Some, None, Bool, true, false, length, eqb, refl, sym, ap, ◌∙◌, subst, arith, eq-eqb, filter, slice_index, slice_index_or, not, IsTrue, cond}
-use Rattle.std.specs.Prelude.{if◌then◌else◌, ◌==◌, is_some, nat_lt, All}
-use Rattle.std.specs.List.{AllByRecursion, list_any, list_all, find, range_with_len}
-use Rattle.std.specs.Option.{option_map}
+use Rattle.std.proofs.Common.{◌≡◌, ◌≢◌, ◌+◌, ◌≤◌, ◌<◌, ◌&&◌, ◌||◌, ℕ, zero, suc, List, [], ◌∷◌, Option, Some, None, Bool, true, false, length, eqb, refl, sym, ap, ◌∙◌, subst, arith, eq-eqb, filter, slice_index, not, cond}
+use Rattle.std.specs.Prelude.{if◌then◌else◌, ◌==◌, nat_lt}
+use Rattle.std.specs.List.{AllByRecursion, list_any, range_with_len}
 use Rattle.std.proofs.lemmas.List.FromFn.{length-range_with_len}
-use Rattle.rt_plain.specs.declared.board.ThreadDef.{ThreadDef}
 use Rattle.rt_plain.specs.PlainBoard.{PlainBoard}
-use Rattle.rt_plain.specs.State.{State, Thread, thread_at, running_on, Alarm, OfThread, OfTimer, ArmedRow, is_closed, is_nest_of, no_thread}
+use Rattle.rt_plain.specs.State.{State, thread_at, running_on, Alarm, OfThread, ArmedRow, is_closed, is_nest_of}
 use Rattle.rt_plain.specs.Pick.{pick}
 use Rattle.rt_plain.specs.Statements.{script_of, statement_effect}
 use Rattle.rt_plain.specs.Sound.{is_active, is_waiting, IsProper}
-use Rattle.rt_plain.specs.Runs.{thread_count}
 use Rattle.rt_plain.specs.Effects.{is_alarm, without_alarm}
 use Rattle.rt_plain.specs.Steps.{without_mark, is_preemptible, takes_from}
 use Rattle.rt_plain.specs.Due.{due, due_rows_at, by_number, put_by_number, timeout_effect, timeout_code}
 use Rattle.rt_plain.specs.Ticks.{next_tick_state, with_slice_used, thread_after_slice}
 use Rattle.rt_plain.specs.Owners.{close_effect}
 use Rattle.rt_plain.specs.Calls.{settled_effect}
-use Rattle.rt_plain.proofs.TallyLemmas.{one_if, tally, tally-length, all-count, all-weaker, all-passing, tally-filter}
-use Rattle.rt_plain.proofs.Invariant.{Frame, Kept, stage_at, places, IsRowKept, IsWaited, fine-at, thread-kept, is-there, active-open, waiting-open, placed-active, running-active, run-kept, preempt-kept, without_alarm-kept}
+use Rattle.rt_plain.proofs.TallyLemmas.{one_if, tally, tally-length, all-count, all-weaker, tally-filter}
+use Rattle.rt_plain.proofs.Invariant.{Frame, Kept, stage_at, IsRowKept, IsWaited, fine-at, thread-kept, is-there, active-open, waiting-open, placed-active, running-active, run-kept, preempt-kept, without_alarm-kept}
 use Rattle.rt_plain.proofs.TickLemmas.{IsDueRow, DropsOne, due-rows, less-fits, filter-length, slice-fine, fold-kept}
 use Rattle.rt_plain.proofs.TickCosts.{all-owned, armed-few}
 use Rattle.rt_plain.proofs.StepLemmas.{picked-ready}

@@ -1,16 +1,13 @@
 -- Calls of threads settle to what the code does.
-use Rattle.std.proofs.Common.{◌≡◌, ℕ, ◌+◌, Some, None, Bool, true, false, refl, sym, ap, ◌∙◌}
-use Rattle.rt_base.specs.declared.codes.Code.{Code}
+use Rattle.std.proofs.Common.{◌≡◌, ℕ, ◌+◌, Some, true}
 use Rattle.rt_plain.specs.declared.line.Line.{Line}
 use Rattle.rt_plain.specs.declared.stmt.Call.{Call}
 use Rattle.rt_plain.specs.PlainBoard.{PlainBoard}
 use Rattle.rt_plain.specs.State.{State, InCall, thread_at}
-use Rattle.rt_plain.specs.Effects.{Effect, name_of}
-use Rattle.rt_plain.specs.Outcome.{ByThread, First, Outcome}
+use Rattle.rt_plain.specs.Effects.{name_of}
+use Rattle.rt_plain.specs.Outcome.{ByThread, First}
 use Rattle.rt_plain.specs.Calls.{outcome_of, settled_effect}
-use Rattle.rt_plain.specs.Statements.{with_next}
 use Rattle.rt_kernel.specs.Built.{is_built_call}
-use Rattle.rt_kernel.specs.Called.{called}
 use Rattle.rt_kernel.specs.Own.{own_effect, begun, next_call}
 use Rattle.rt_kernel.proofs.CurLemmas.{IsFree}
 use Rattle.rt_kernel.proofs.Quiet.{IsQuietCall, call_settles, quiet-wait, quiet-yield, quiet-startup, quiet-suspend, quiet-resume, quiet-kill, quiet-sched_lock, quiet-sched_unlock}

@@ -1,8 +1,8 @@
 -- The pick is the best of a scan, where nobody owns a mutex and no thread is bound.
-use Rattle.std.proofs.Common.{◌≡◌, ℕ, zero, suc, ◌<◌, ◌≤◌, ◌&&◌, ◌||◌, not, eqb, arith, length, drop, get_or, add-one, ◌+◌, slice_index_or, List, [], ◌∷◌, Option, Some, None, Bool, true, false, refl, sym, ap, ◌∙◌, subst, map, filter, find, option_map, nat_lt, cond, is_some}
+use Rattle.std.proofs.Common.{◌≡◌, ℕ, zero, suc, ◌<◌, ◌≤◌, ◌&&◌, ◌||◌, not, eqb, arith, length, drop, get_or, add-one, ◌+◌, List, [], ◌∷◌, Option, Some, None, Bool, true, false, refl, sym, ap, ◌∙◌, subst, map, filter, find, option_map, nat_lt, cond, is_some}
 use Rattle.std.specs.Prelude.{if◌then◌else◌}
 use Rattle.std.specs.List.{list_any}
-use Rattle.rt_plain.specs.State.{State, thread_at, no_thread}
+use Rattle.rt_plain.specs.State.{State, thread_at}
 use Rattle.rt_kernel.specs.View.{state_of}
 use Rattle.rt_kernel.specs.Threads.{ArePlain}
 use Rattle.rt_kernel.specs.declared.records.Records.{Records}

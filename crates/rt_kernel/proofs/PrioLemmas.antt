@@ -1,18 +1,17 @@
 -- What follows from another base priority.
-use Rattle.std.proofs.Common.{◌≡◌, ℕ, suc, ◌+◌, ◌<◌, ◌≤◌, ◌&&◌, ◌||◌, not, eqb, arith, List, [], ◌∷◌, ◌++◌, Option, Some, None, Bool, true, false, refl, sym, ap, ◌∙◌, length, filter, slice_set, slice_index_or, cond, subst, get_or}
+use Rattle.std.proofs.Common.{◌≡◌, ℕ, suc, ◌+◌, ◌<◌, ◌&&◌, not, arith, List, [], ◌∷◌, ◌++◌, Option, Some, None, Bool, true, false, refl, sym, ap, ◌∙◌, length, filter, slice_set, slice_index_or, cond, subst}
 use Rattle.std.specs.Prelude.{if◌then◌else◌, ◌==◌}
 use Rattle.std.specs.List.{cons_option, position_from}
-use Rattle.std.specs.Str.{bytes_eq}
-use Rattle.std.proofs.lemmas.List.{append-nil, length-set}
+use Rattle.std.proofs.lemmas.List.{append-nil}
 use Rattle.rt_base.specs.declared.codes.Code.{Code}
 use Rattle.rt_plain.specs.declared.line.Line.{Line}
 use Rattle.rt_plain.specs.PlainBoard.{PlainBoard}
 use Rattle.rt_plain.specs.State.{State, Thread, no_thread, thread_at, with_thread, find_thread, is_closed, is_among}
 use Rattle.rt_plain.specs.Priority.{cur}
-use Rattle.rt_plain.specs.Effects.{Effect, name_of, no_effect}
-use Rattle.rt_plain.specs.Outcome.{Answers, Outcome, refusal, silent_success, found_outcome}
+use Rattle.rt_plain.specs.Effects.{Effect, name_of}
+use Rattle.rt_plain.specs.Outcome.{Outcome, refusal, silent_success, found_outcome}
 use Rattle.rt_plain.specs.ThreadCalls.{set_prio}
-use Rattle.rt_plain.specs.Statements.{call_effect, with_answer, with_next}
+use Rattle.rt_plain.specs.Statements.{call_effect, with_next}
 use Rattle.rt_plain.specs.Calls.{settled_effect, has_new_cur, prio_line}
 use Rattle.rt_plain.proofs.TallyLemmas.{same-set, other-set, here-set, length-set_at}
 use Rattle.rt_kernel.specs.Called.{called}

@@ -1,16 +1,15 @@
 -- Actions that change no base priority settle to themselves.
-use Rattle.std.proofs.Common.{◌≡◌, ℕ, ◌+◌, ◌-◌, List, [], ◌∷◌, ◌++◌, Option, Some, None, Bool, true, false, refl, sym, ap, ◌∙◌, slice_set, slice_index_or}
+use Rattle.std.proofs.Common.{◌≡◌, ℕ, ◌+◌, ◌-◌, List, [], ◌∷◌, Option, Some, None, Bool, true, false, refl, sym, ap, ◌∙◌, slice_set, slice_index_or}
 use Rattle.std.specs.Prelude.{if◌then◌else◌}
 use Rattle.rt_base.specs.declared.codes.Code.{Code}
 use Rattle.rt_plain.specs.declared.line.Line.{Line}
-use Rattle.rt_plain.specs.declared.stmt.Call.{Call}
 use Rattle.rt_plain.specs.declared.stmt.Stmt.{Stmt}
 use Rattle.rt_plain.specs.PlainBoard.{PlainBoard}
-use Rattle.rt_plain.specs.State.{State, Thread, Stage, Initial, Active, Waiting, Suspended, Closed, Awaited, Alarm, OfThread, no_thread, thread_at, with_thread, find_thread}
-use Rattle.rt_plain.specs.Effects.{Effect, no_effect, line_effect, and_then, active_state, wake_effect, waiting_state, with_alarm, without_alarm}
+use Rattle.rt_plain.specs.State.{State, Thread, Stage, Initial, Active, Waiting, Suspended, Closed, Awaited, Alarm, no_thread, thread_at, with_thread, find_thread}
+use Rattle.rt_plain.specs.Effects.{Effect, line_effect, active_state, wake_effect, waiting_state, with_alarm}
 use Rattle.rt_plain.specs.Owners.{close_effect, withdrawn_state}
 use Rattle.rt_plain.specs.Outcome.{By, ByThread, Answer, Answers, Waits, Outcome, refusal, found_outcome, wait_outcome, may_not_wait}
-use Rattle.rt_plain.specs.ThreadCalls.{delay, yield, startup, start_effect, suspend, suspended_state, may_suspend, resume, resume_outcome, kill, sched_lock, sched_unlock, with_locks}
+use Rattle.rt_plain.specs.ThreadCalls.{yield, startup, suspend, suspended_state, may_suspend, resume, resume_outcome, kill, sched_lock, sched_unlock}
 use Rattle.rt_plain.specs.Statements.{call_effect, with_answer, with_next, plain_effect, print_effect, target, with_counter, said_text}
 use Rattle.rt_plain.specs.Calls.{settled_effect}
 use Rattle.rt_plain.specs.Due.{timeout_effect, timeout_code}

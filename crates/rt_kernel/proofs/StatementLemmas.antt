@@ -1,19 +1,17 @@
 -- A statement of a thread is what the code does.
-use Rattle.std.proofs.Common.{◌≡◌, ℕ, zero, suc, ◌+◌, ◌&&◌, List, [], ◌∷◌, Option, Some, None, Bool, true, false, refl, sym, ap, ◌∙◌, subst, slice_index_or, eqb, is_some}
+use Rattle.std.proofs.Common.{◌≡◌, ℕ, zero, suc, ◌+◌, ◌&&◌, List, [], ◌∷◌, Option, Some, None, Bool, true, false, refl, sym, ap, ◌∙◌, slice_index_or, eqb, is_some}
 use Rattle.std.specs.Prelude.{if◌then◌else◌}
-use Rattle.rt_base.specs.declared.codes.Code.{Code}
 use Rattle.rt_plain.specs.declared.line.Line.{Line}
 use Rattle.rt_plain.specs.declared.stmt.Call.{Call}
 use Rattle.rt_plain.specs.declared.stmt.Stmt.{Stmt}
 use Rattle.rt_plain.specs.PlainBoard.{PlainBoard}
 use Rattle.rt_plain.specs.State.{State, Thread, Retry, no_thread, thread_at}
-use Rattle.rt_plain.specs.Effects.{Effect, name_of, and_then, line_effect}
+use Rattle.rt_plain.specs.Effects.{Effect}
 use Rattle.rt_plain.specs.Outcome.{ByThread, First}
 use Rattle.rt_plain.specs.Calls.{outcome_of, settled_effect}
-use Rattle.rt_plain.specs.Statements.{script_of, statement_at, statement_effect, script_effect, done_effect, with_next, call_effect, plain_effect}
+use Rattle.rt_plain.specs.Statements.{script_of, statement_at, statement_effect, script_effect, done_effect, call_effect}
 use Rattle.rt_plain.specs.Shell.{shell_effect}
 use Rattle.rt_plain.proofs.TallyLemmas.{same-set}
-use Rattle.rt_kernel.specs.Called.{called}
 use Rattle.rt_kernel.specs.Own.{begun, next_call}
 use Rattle.rt_kernel.specs.Plain.{is_plain, plain_did}
 use Rattle.rt_kernel.proofs.CurLemmas.{IsFree}

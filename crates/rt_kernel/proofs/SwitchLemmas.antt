@@ -1,6 +1,6 @@
 -- Who takes a core.
-use Rattle.std.proofs.Common.{◌≡◌, ℕ, ◌&&◌, ◌||◌, eqb, nat_lt, refl, sym, ap, ◌∙◌}
-use Rattle.rt_plain.specs.State.{State, thread_at}
+use Rattle.std.proofs.Common.{◌≡◌, ℕ, ◌&&◌, ◌||◌, eqb, nat_lt, refl, ap, ◌∙◌}
+use Rattle.rt_plain.specs.State.{thread_at}
 use Rattle.rt_plain.specs.Priority.{cur}
 use Rattle.rt_plain.specs.Steps.{takes_from}
 use Rattle.rt_kernel.specs.declared.records.Records.{Records}

@@ -1,5 +1,5 @@
 -- The rows of the table of threads.
-use Rattle.std.proofs.Common.{◌≡◌, ℕ, ◌+◌, ◌<◌, ◌≤◌, ◌++◌, ◌∷◌, [], List, Bool, true, false, not, length, filter, reverse, replicate, refl, ap, ◌∙◌, subst, sym}
+use Rattle.std.proofs.Common.{◌≡◌, ℕ, ◌+◌, ◌≤◌, ◌∷◌, [], List, Bool, true, false, not, length, filter, reverse, replicate, refl, ap, ◌∙◌, subst, sym}
 use Rattle.std.specs.List.{range_with_len}
 use Rattle.std.proofs.lemmas.List.{reverse-append, length-reverse}
 use Rattle.rt_base.specs.declared.codes.Sleep.{Sleep}

@@ -1,7 +1,7 @@
 -- What a call of a thread did.
-use Rattle.std.specs.Prelude.{ℕ, ◌+◌}
+use Rattle.std.specs.Prelude.{ℕ}
 use Rattle.rt_plain.specs.declared.line.Line.{Line}
-use Rattle.rt_plain.specs.State.{State, thread_at}
+use Rattle.rt_plain.specs.State.{State}
 use Rattle.rt_plain.specs.Effects.{Effect, name_of}
 use Rattle.rt_plain.specs.Outcome.{Answer as PlainAnswer, Answers, Waits, Outcome}
 use Rattle.rt_plain.specs.Statements.{call_effect}

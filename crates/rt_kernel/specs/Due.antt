@@ -1,5 +1,5 @@
 -- Which armed row fires next.
-use Rattle.std.specs.Prelude.{ℕ, Bool, List, [], ◌∷◌, Option, Some, None, nat_lt, if◌then◌else◌, ◌==◌}
+use Rattle.std.specs.Prelude.{ℕ, List, [], ◌∷◌, Option, Some, None, nat_lt, if◌then◌else◌, ◌==◌}
 use Rattle.rt_plain.specs.State.{State, ArmedRow, Alarm}
 use Rattle.rt_plain.specs.Effects.{without_alarm}
 

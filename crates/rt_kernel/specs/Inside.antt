@@ -1,5 +1,5 @@
 -- What is true of every kernel.
-use Rattle.std.specs.Prelude.{◌≡◌, ◌≤◌, length, eqb}
+use Rattle.std.specs.Prelude.{eqb}
 use Rattle.rt_plain.specs.PlainBoard.{PlainBoard}
 use Rattle.rt_plain.specs.State.{State}
 use Rattle.rt_plain.proofs.TallyLemmas.{tally}

@@ -35,7 +35,7 @@ struct Stage {
     lines: usize,
 }
 
-const fn after(act: Act, running: Option<u16>, tick: u32, numbers: u64, lines: usize) -> Stage {
+fn after(act: Act, running: Option<u16>, tick: u32, numbers: u64, lines: usize) -> Stage {
     let running = match running {
         Some(t) => Some(ThreadNo(t)),
         None => None,
@@ -47,6 +47,27 @@ const fn after(act: Act, running: Option<u16>, tick: u32, numbers: u64, lines: u
         numbers,
         lines,
     }
+}
+
+// `a` waits, and `c` runs until its wait is over.
+fn begin_stages() -> [Stage; 5] {
+    [
+        after(Act::Step(None), Some(0), 0, 0, 1),
+        after(Act::Step(None), Some(0), 0, 0, 2),
+        after(Act::Step(Some(Answer::Waits)), None, 0, 2, 1),
+        after(Act::Step(None), Some(2), 0, 2, 1),
+        after(Act::Tick, Some(2), 1, 2, 2),
+    ]
+}
+
+// `a` runs again and ends, and `c` starts `b`.
+fn end_stages() -> [Stage; 4] {
+    [
+        after(Act::Step(None), Some(0), 1, 2, 2),
+        after(Act::Step(None), None, 1, 2, 2),
+        after(Act::Step(None), Some(2), 1, 2, 1),
+        after(Act::Step(Some(Answer::Code(Code::Ok))), Some(2), 1, 2, 2),
+    ]
 }
 
 // The core switches, where it may, and else does the next statement of its thread.
@@ -66,6 +87,7 @@ fn step<L: Ledger>(
     kernel.unmark(CORE);
     kernel.facts();
     assert!(rt; kernel.running(CORE) == Some(thread));
+    assert!(rt; kernel.next(thread) > 0);
     assert!(rt; kernel.numbers() < 100);
     match kernel.next_statement(thread) {
         Stmt::Do(call) => Some(kernel.call(By::Thread(thread, CORE), &call, out, steps)),
@@ -107,6 +129,22 @@ fn perform<L: Ledger>(
     assert_eq!(rt; out.len(), stage.lines);
 }
 
+// Ends a thread that hasn't ended.
+fn end_thread<L: Ledger>(
+    rt: &impl Abort,
+    kernel: &mut Kernel,
+    thread: ThreadNo,
+    out: &mut Lines,
+    steps: &mut Steps<L>,
+) {
+    assert!(rt; (thread.0 as usize) < kernel.records.threads.len());
+    assert!(rt; !kernel.records.threads.is_closed(thread));
+    out.clear();
+    assert!(rt; out.spare() >= 1);
+    kernel.close(thread, out, steps);
+    assert_eq!(rt; out.len(), 1);
+}
+
 // Whether the table of threads shows this at a place.
 fn shows(kernel: &Kernel, place: usize, name: &[u8], state: ThreadState, left: u8) -> bool {
     if place >= kernel.count(Class::Thread) {
@@ -133,6 +171,30 @@ fn shows(kernel: &Kernel, place: usize, name: &[u8], state: ThreadState, left: u
     }
 }
 
+// A kernel of the board, before its first step.
+fn opened(rt: &impl Abort, alloc: Global) -> Result<Kernel, Fail> {
+    let board = parse(alloc, BOARD).ok().ok_or("board")?;
+    assert!(rt; is_built(&board));
+    let kernel = Kernel::open(alloc, board)?;
+    assert!(rt; kernel.is_quiet() && !kernel.all_idle());
+    assert!(rt; kernel.run_mode() == RunMode::Normal && kernel.mode() == Sleep::Light);
+    assert_eq!(rt; kernel.votes(Sleep::Deep), 0);
+    assert_eq!(rt; kernel.board().threads.len(), 3);
+    Ok(kernel)
+}
+
+fn perform_all<L: Ledger>(
+    rt: &impl Abort,
+    kernel: &mut Kernel,
+    stages: &[Stage],
+    out: &mut Lines,
+    steps: &mut Steps<L>,
+) {
+    for stage in stages {
+        perform(rt, kernel, *stage, out, steps);
+    }
+}
+
 fn whole_run<L: Ledger>(rt: &impl Abort, alloc: Global, blank: Blank) -> Result<(), Fail>
     requires name { blank.name ≡ L.name }
     requires parts { blank.parts ≡ L.parts }
@@ -140,35 +202,15 @@ fn whole_run<L: Ledger>(rt: &impl Abort, alloc: Global, blank: Blank) -> Result<
 {
     let mut steps: Steps<L> = Steps::new(blank);
     let mut out = Lines::new(alloc, 4)?;
-    let board = parse(alloc, BOARD).ok().ok_or("board")?;
-    assert!(rt; is_built(&board));
-    let mut kernel = Kernel::open(alloc, board)?;
-    assert!(rt; kernel.is_quiet() && !kernel.all_idle());
-    assert!(rt; kernel.run_mode() == RunMode::Normal && kernel.mode() == Sleep::Light);
-    assert_eq!(rt; kernel.votes(Sleep::Deep), 0);
-    let begin = [
-        after(Act::Step(None), Some(0), 0, 0, 1),
-        after(Act::Step(None), Some(0), 0, 0, 2),
-        after(Act::Step(Some(Answer::Waits)), None, 0, 2, 1),
-        after(Act::Step(None), Some(2), 0, 2, 1),
-        after(Act::Tick, Some(2), 1, 2, 2),
-    ];
-    for stage in begin {
-        perform(rt, &mut kernel, stage, &mut out, &mut steps);
-    }
+    let mut kernel = opened(rt, alloc)?;
+    perform_all(rt, &mut kernel, &begin_stages(), &mut out, &mut steps);
     assert!(rt; shows(&kernel, 0, b"c", ThreadState::Running, 1));
     assert!(rt; shows(&kernel, 1, b"b", ThreadState::Initial, 1));
     assert!(rt; shows(&kernel, 2, b"a", ThreadState::Ready, 3));
-    let end = [
-        after(Act::Step(None), Some(0), 1, 2, 2),
-        after(Act::Step(None), None, 1, 2, 2),
-        after(Act::Step(None), Some(2), 1, 2, 1),
-        after(Act::Step(Some(Answer::Code(Code::Ok))), Some(2), 1, 2, 2),
-    ];
-    for stage in end {
-        perform(rt, &mut kernel, stage, &mut out, &mut steps);
-    }
+    perform_all(rt, &mut kernel, &end_stages(), &mut out, &mut steps);
     assert_eq!(rt; kernel.count(Class::Thread), 2);
+    end_thread(rt, &mut kernel, ThreadNo(1), &mut out, &mut steps);
+    assert_eq!(rt; kernel.count(Class::Thread), 1);
     Ok(())
 }
 

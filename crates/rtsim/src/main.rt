@@ -5,6 +5,8 @@ mod ending;
 mod reading;
 #[cfg(test)]
 mod tests;
+#[cfg(test)]
+mod thread_tests;
 mod top;
 mod tracing;
 mod words;

@@ -33,15 +33,15 @@ const PRINT: &[u8] = b"  print \"01234567890123456789012345678901234567890123456
 // What happens outside: the number of the call that fails (0 for none), of the files, of `out` and of `err`; the room of
 // `out`, and the most bytes that one call moves.
 #[derive(Clone, Copy)]
-struct Outside {
-    read: u64,
-    write: u64,
-    line: u64,
-    room: usize,
-    most: usize,
+pub struct Outside {
+    pub read: u64,
+    pub write: u64,
+    pub line: u64,
+    pub room: usize,
+    pub most: usize,
 }
 
-const GOOD: Outside = Outside {
+pub const GOOD: Outside = Outside {
     read: 0,
     write: 0,
     line: 0,
@@ -51,10 +51,10 @@ const GOOD: Outside = Outside {
 
 // What a call has told.
 #[derive(Drop)]
-struct Told {
-    status: u8,
-    out: MemSink,
-    err: MemSink,
+pub struct Told {
+    pub status: u8,
+    pub out: MemSink,
+    pub err: MemSink,
 }
 
 fn list<T: Copy>(alloc: Global, items: &[T]) -> Result<List<T>, AllocError> {
@@ -82,7 +82,12 @@ fn strings(alloc: Global, words: &[&str]) -> Result<Vec<String>, AllocError> {
 }
 
 // Does the command of the words over a file `b`.
-fn tell(alloc: Global, words: &[&str], board: &[u8], outside: Outside) -> Result<Told, AllocError> {
+pub fn tell(
+    alloc: Global,
+    words: &[&str],
+    board: &[u8],
+    outside: Outside,
+) -> Result<Told, AllocError> {
     let most = outside.most.max(1);
     let mut files = MemFiles::new(one_file(alloc, board)?, most, list(alloc, &[outside.read])?);
     let mut out = MemSink::new(alloc, outside.room, most, list(alloc, &[outside.write])?)?;

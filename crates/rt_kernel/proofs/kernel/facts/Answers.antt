@@ -1,9 +1,7 @@
-use Rattle.std.proofs.Common.{◌≡◌, ◌+◌, ◌≤◌, ◌<◌, length, arith, Option, Some, None, ℕ, IfSome, refl}
-use Rattle.rt_plain.specs.State.{State, Thread, thread_at, running_on}
+use Rattle.std.proofs.Common.{◌≡◌, ◌≤◌, ◌<◌, length, arith, Option, Some, None, ℕ, IfSome, refl}
+use Rattle.rt_plain.specs.State.{State, thread_at}
 use Rattle.rt_plain.specs.PlainBoard.{PlainBoard}
 use Rattle.rt_plain.specs.Runs.{thread_count}
-use Rattle.rt_plain.specs.Statements.{script_of}
-use Rattle.rt_plain.proofs.Invariant.{Kept}
 use Rattle.rt_plain.proofs.TickCosts.{armed-few}
 use Rattle.rt_kernel.specs.Built.{IsBuilt}
 use Rattle.rt_kernel.specs.Inside.{frame_of}

@@ -1,5 +1,4 @@
-use Rattle.std.proofs.Common.{◌≡◌, ℕ, List, Bool, true, false, not, ◌+◌, ◌++◌, ◌∷◌, [], length, filter, arith, ap, sym, ◌∙◌, refl}
-use Rattle.std.specs.List.{range_with_len}
+use Rattle.std.proofs.Common.{ℕ, List, Bool, not, ◌++◌, ◌∷◌, [], length, arith, ap, sym, ◌∙◌}
 use Rattle.rt_plain.specs.State.{is_initial}
 use Rattle.rt_kernel.specs.Threads.{row_at}
 use Rattle.rt_kernel.proofs.OpenLemmas.{length_passes, filter_passes, filter_fails}

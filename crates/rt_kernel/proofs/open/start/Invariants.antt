@@ -1,4 +1,4 @@
-use Rattle.std.proofs.Common.{◌≡◌, ◌≤◌, length, filter, not}
+use Rattle.std.proofs.Common.{◌≡◌, filter, not}
 use Rattle.std.specs.List.{range_with_len}
 use Rattle.rt_plain.specs.State.{is_initial}
 use Rattle.rt_kernel.specs.Threads.{row_at}

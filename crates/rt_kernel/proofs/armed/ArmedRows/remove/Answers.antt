@@ -1,4 +1,4 @@
-use Rattle.std.proofs.Common.{rules, not, sym, ap, ◌∙◌, map, filter, List}
+use Rattle.std.proofs.Common.{rules, not, ap, ◌∙◌, map, filter}
 use Rattle.std.proofs.lemmas.Fn.{filter_same}
 use Rattle.rt_plain.specs.State.{OfThread, ArmedRow, Alarm}
 use Rattle.rt_plain.specs.Effects.{is_alarm}

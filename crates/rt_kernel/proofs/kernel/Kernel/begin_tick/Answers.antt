@@ -1,8 +1,5 @@
-use Rattle.std.proofs.Common.{◌≡◌, ◌+◌, ◌≤◌, ◌<◌, ◌++◌, List, arith, ℕ, Option, Some, None, refl, sym, ap, ◌∙◌, subst}
-use Rattle.rt_plain.specs.declared.line.Line.{Line}
-use Rattle.rt_plain.specs.PlainBoard.{PlainBoard}
+use Rattle.std.proofs.Common.{sym, ap, ◌∙◌, subst}
 use Rattle.rt_plain.specs.State.{State}
-use Rattle.rt_plain.specs.Effects.{Effect}
 use Rattle.rt_plain.proofs.Invariant.{Kept}
 use Rattle.rt_kernel.specs.Inside.{frame_of}
 use Rattle.rt_kernel.specs.Seen.{KernelSeen}

@@ -1,17 +1,14 @@
-use Rattle.std.proofs.Common.{◌≡◌, ◌+◌, ◌≤◌, ◌<◌, ◌++◌, List, arith, ℕ, Option, Some, None, true, refl, sym, ap, ◌∙◌, subst, length}
-use Rattle.rt_plain.specs.declared.line.Line.{Line}
+use Rattle.std.proofs.Common.{◌≡◌, true, sym, ap, ◌∙◌, subst}
 use Rattle.rt_plain.specs.declared.stmt.Stmt.{Stmt}
-use Rattle.rt_plain.specs.PlainBoard.{PlainBoard}
-use Rattle.rt_plain.specs.State.{State, thread_at, running_on}
+use Rattle.rt_plain.specs.State.{State, thread_at}
 use Rattle.rt_plain.specs.Effects.{Effect}
 use Rattle.rt_plain.proofs.Invariant.{Kept}
 use Rattle.rt_kernel.specs.Inside.{frame_of}
 use Rattle.rt_kernel.specs.Seen.{KernelSeen, DoesNext, MayCall}
 use Rattle.rt_kernel.specs.View.{state_of}
-use Rattle.rt_plain.specs.Statements.{script_of, statement_effect}
+use Rattle.rt_plain.specs.Statements.{statement_effect}
 use Rattle.rt_kernel.specs.declared.answer.By.{By}
 use Rattle.rt_kernel.specs.Built.{is_built_statement}
-use Rattle.rt_kernel.specs.Own.{next_call}
 use Rattle.rt_kernel.proofs.BuiltLemmas.{all-built, proper}
 use Rattle.rt_kernel.proofs.KeptLemmas.{stated-kept}
 use Rattle.rt_kernel.proofs.StatementLemmas.{call_is, first_core}

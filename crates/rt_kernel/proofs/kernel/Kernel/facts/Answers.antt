@@ -1,4 +1,4 @@
-use Rattle.std.proofs.Common.{◌≡◌, ◌≤◌, ◌<◌, length, arith, ℕ, Some, ap, ◌∙◌, subst, refl}
+use Rattle.std.proofs.Common.{◌≡◌, ◌≤◌, ◌<◌, length, ℕ, Some, subst, refl}
 use Rattle.rt_plain.specs.State.{State, running_on}
 use Rattle.rt_plain.specs.Due.{due}
 use Rattle.rt_plain.specs.Sound.{IsProper}

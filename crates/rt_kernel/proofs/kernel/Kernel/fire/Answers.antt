@@ -1,12 +1,9 @@
-use Rattle.std.proofs.Common.{◌≡◌, ◌+◌, ◌≤◌, ◌<◌, ◌++◌, List, arith, ℕ, Option, Some, None, true, refl, sym, ap, ◌∙◌, subst, length}
-use Rattle.rt_plain.specs.declared.line.Line.{Line}
-use Rattle.rt_plain.specs.declared.stmt.Stmt.{Stmt}
-use Rattle.rt_plain.specs.PlainBoard.{PlainBoard}
-use Rattle.rt_plain.specs.State.{State, thread_at, running_on}
+use Rattle.std.proofs.Common.{◌≡◌, ◌≤◌, ◌++◌, refl, sym, ap, ◌∙◌, subst, length}
+use Rattle.rt_plain.specs.State.{State, thread_at}
 use Rattle.rt_plain.specs.Effects.{Effect}
 use Rattle.rt_plain.proofs.Invariant.{Kept}
 use Rattle.rt_kernel.specs.Inside.{frame_of}
-use Rattle.rt_kernel.specs.Seen.{KernelSeen, DoesNext, MayCall}
+use Rattle.rt_kernel.specs.Seen.{KernelSeen}
 use Rattle.rt_kernel.specs.View.{state_of}
 use Rattle.rt_plain.specs.Due.{due, timeout_effect}
 use Rattle.rt_plain.specs.State.{OfThread}

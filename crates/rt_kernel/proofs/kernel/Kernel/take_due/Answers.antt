@@ -1,19 +1,14 @@
-use Rattle.std.proofs.Common.{◌≡◌, ◌+◌, ◌≤◌, ◌<◌, ◌++◌, List, arith, ℕ, Option, Some, None, true, refl, sym, ap, ◌∙◌, subst, length}
-use Rattle.rt_plain.specs.declared.line.Line.{Line}
-use Rattle.rt_plain.specs.declared.stmt.Stmt.{Stmt}
-use Rattle.rt_plain.specs.PlainBoard.{PlainBoard}
-use Rattle.rt_plain.specs.State.{State, thread_at, running_on}
-use Rattle.rt_plain.specs.Effects.{Effect}
+use Rattle.std.proofs.Common.{◌≡◌, ◌<◌, ℕ, Option, Some, true, sym, ap, ◌∙◌, subst, length}
+use Rattle.rt_plain.specs.State.{State, thread_at}
 use Rattle.rt_plain.proofs.Invariant.{Kept}
 use Rattle.rt_kernel.specs.Inside.{frame_of}
-use Rattle.rt_kernel.specs.Seen.{KernelSeen, DoesNext, MayCall}
+use Rattle.rt_kernel.specs.Seen.{KernelSeen}
 use Rattle.rt_kernel.specs.View.{state_of}
 use Rattle.rt_plain.specs.State.{OfThread}
-use Rattle.rt_plain.specs.State.{Alarm}
 use Rattle.std.specs.Option.{option_map}
 use Rattle.rt_plain.specs.Due.{due}
 use Rattle.rt_plain.specs.Sound.{is_waiting}
-use Rattle.rt_kernel.specs.Due.{taken, first_alarm}
+use Rattle.rt_kernel.specs.Due.{taken}
 use Rattle.rt_kernel.proofs.KeptLemmas.{taken-kept, first-due}
 use Rattle.rt_kernel.proofs.kernel.Kernel.take_due.Given.{Over}
 use Rattle.rt_kernel.proofs.kernel.Kernel.take_due.Goals as goal

@@ -1,5 +1,4 @@
-use Rattle.std.proofs.Common.{sym, ap, refl, List, ◌++◌}
-use Rattle.rt_plain.specs.declared.line.Line.{Line}
+use Rattle.std.proofs.Common.{sym, ap, refl, ◌++◌}
 use Rattle.rt_plain.specs.Effects.{Effect}
 use Rattle.rt_kernel.specs.View.{state_of}
 use Rattle.rt_kernel.proofs.OwnLemmas.{own_settles}

@@ -1,5 +1,4 @@
-use Rattle.std.proofs.Common.{◌≡◌, ◌∙◌, ap, map, List}
-use Rattle.rt_plain.specs.declared.board.ThreadDef.{ThreadDef}
+use Rattle.std.proofs.Common.{◌∙◌, ap, map}
 use Rattle.rt_plain.specs.PlainBoard.{PlainBoard}
 use Rattle.rt_plain.specs.Opening.{new_script_thread}
 use Rattle.rt_kernel.proofs.OpenLemmas.{opened_parts}

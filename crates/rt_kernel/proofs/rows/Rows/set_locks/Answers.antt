@@ -1,4 +1,4 @@
-use Rattle.std.proofs.Common.{refl, true, false}
+use Rattle.std.proofs.Common.{refl}
 use Rattle.rt_plain.specs.State.{Thread}
 use Rattle.rt_kernel.proofs.RowLemmas.{written}
 use Rattle.rt_kernel.proofs.rows.Rows.set_locks.Goals as goal

@@ -1,4 +1,4 @@
-use Rattle.std.proofs.Common.{refl, true, false}
+use Rattle.std.proofs.Common.{refl, false}
 use Rattle.rt_plain.specs.State.{Thread}
 use Rattle.rt_kernel.proofs.RowLemmas.{written}
 use Rattle.rt_kernel.proofs.rows.Rows.unmark.Goals as goal

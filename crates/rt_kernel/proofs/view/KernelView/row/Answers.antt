@@ -1,4 +1,4 @@
-use Rattle.std.proofs.Common.{◌≡◌, Some, slice_get, option_map, sym, ap, ◌∙◌}
+use Rattle.std.proofs.Common.{Some, slice_get, option_map, sym, ap, ◌∙◌}
 use Rattle.std.proofs.lemmas.Option.{slice_get-map}
 use Rattle.rt_plain.specs.State.{State}
 use Rattle.rt_plain.specs.Rows.{rows, thread_row}
