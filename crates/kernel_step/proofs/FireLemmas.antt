@@ -60,11 +60,11 @@ firing-more old now mid new old_lines lines new_lines room t on first board take
       enough = omega (arith, no_more, fewer, on.enough, left.1);
       state = ap (λ (s : State). (rest_effect old.board m s).state) new_is ∙ sym (ap (λ (e : Effect). e.state) left.2) ∙ on.state;
       shown =
-        ap (λ (ls : List Line). ls ++ (rest_effect old.board m new.state).lines) new_shown
-        ∙ ap (λ (s : State). (lines ++ (fired old.board t (taken now.state (Some (OfThread t)))).lines) ++ (rest_effect old.board m s).lines) new_is
-        ∙ append_assoc lines _ _
-        ∙ sym (ap (λ (e : Effect). lines ++ e.lines) left.2)
-        ∙ on.shown;
+          ap (λ (ls : List Line). ls ++ (rest_effect old.board m new.state).lines) new_shown
+          ∙ ap (λ (s : State). (lines ++ (fired old.board t (taken now.state (Some (OfThread t)))).lines) ++ (rest_effect old.board m s).lines) new_is
+          ∙ append_assoc lines _ _
+          ∙ sym (ap (λ (e : Effect). lines ++ e.lines) left.2)
+          ∙ on.shown;
       fits = omega (arith, no_more, fewer, few, on.fits);
       awake = subst (λ (ls : List Line). is_sleep ls ≡ false) (sym new_shown) (awake-append lines _ on.awake refl);
       numbers = numbers ∙ ap (λ (s : State). s.numbers) taken_is ∙ on.numbers;
@@ -80,8 +80,9 @@ pub firing-done : (old now mid : KernelSeen) (old_lines lines : List Line) (room
     mid.board ≡ now.board → mid.state ≡ taken now.state None →
     Done old mid old_lines lines
 firing-done old now mid old_lines lines room on none board state =
-    let left = rest-none old.board on.fuel now.state (due now.state) none in
-    (board ∙ on.board,
-    state ∙ sym left.0 ∙ on.state,
-    sym (append-nil lines) ∙ sym (ap (λ (ls : List Line). lines ++ ls) left.1) ∙ on.shown,
-    ap (λ (s : State). s.numbers) state ∙ on.numbers)
+    let left = rest-none old.board on.fuel now.state (due now.state) none in (
+      board ∙ on.board,
+      state ∙ sym left.0 ∙ on.state,
+      sym (append-nil lines) ∙ sym (ap (λ (ls : List Line). lines ++ ls) left.1) ∙ on.shown,
+      ap (λ (s : State). s.numbers) state ∙ on.numbers,
+    )

@@ -97,19 +97,19 @@ rest-is b s mode alone =
     ∙ ap (λ (h : Option Halt). halting_rest_did b h s) (ap final_halt asleep)
     ∙ ap (λ (c : Bool). if c then Halted Halt.Quiet else awake_rest_did b s) (ap (λ (ars : List Arrival). is_empty s.armed && is_empty ars) alone.arrivals)
     ∙ by_quiet (is_empty s.armed) where
-  asleep : sleep_mode b s ≡ Sleep.NoSleep
-  asleep = ap (λ (vs : List ℕ). voted_mode b.default_mode vs) alone.votes ∙ mode
+      asleep : sleep_mode b s ≡ Sleep.NoSleep
+      asleep = ap (λ (vs : List ℕ). voted_mode b.default_mode vs) alone.votes ∙ mode
 
-  by_tickless : (c : Bool) → (if c && false then sleep_did b (sleep_length b s) s else Same) ≡ Same
-  by_tickless true = refl
-  by_tickless false = refl
+      by_tickless : (c : Bool) → (if c && false then sleep_did b (sleep_length b s) s else Same) ≡ Same
+      by_tickless true = refl
+      by_tickless false = refl
 
-  stays : awake_rest_did b s ≡ Same
-  stays = ap (λ (m : Sleep). if b.tickless && (stops_ticks m && nat_le b.thresh (sleep_length b s)) then sleep_did b (sleep_length b s) s else Same) asleep ∙ by_tickless b.tickless
+      stays : awake_rest_did b s ≡ Same
+      stays = ap (λ (m : Sleep). if b.tickless && (stops_ticks m && nat_le b.thresh (sleep_length b s)) then sleep_did b (sleep_length b s) s else Same) asleep ∙ by_tickless b.tickless
 
-  by_quiet : (c : Bool) → (if c && true then Halted Halt.Quiet else awake_rest_did b s) ≡ (if c then Halted Halt.Quiet else Same)
-  by_quiet true = refl
-  by_quiet false = stays
+      by_quiet : (c : Bool) → (if c && true then Halted Halt.Quiet else awake_rest_did b s) ≡ (if c then Halted Halt.Quiet else Same)
+      by_quiet true = refl
+      by_quiet false = stays
 
 pub step_rests : (b : PlainBoard) (s : State) → b.default_mode ≡ Sleep.NoSleep → IsAlone s → running_on s 0 ≡ None → switched s 0 ≡ None → happens b s (Event.Step 0) ≡ (if is_all_idle s && is_empty s.armed then Halted Halt.Quiet else Same)
 step_rests b s mode alone runs is =
@@ -117,9 +117,9 @@ step_rests b s mode alone runs is =
     ∙ ap (λ (o : Option ℕ). did_by b s 0 o (pick s 0)) runs
     ∙ rests b s (pick s 0) (sym (ap (λ (o : Option ℕ). switched_by s 0 o (pick s 0)) runs) ∙ is)
     ∙ by_idle (is_all_idle s) where
-  by_idle : (c : Bool) → (if c then rest_did b s else Same) ≡ (if c && is_empty s.armed then Halted Halt.Quiet else Same)
-  by_idle true = rest-is b s mode alone
-  by_idle false = refl
+      by_idle : (c : Bool) → (if c then rest_did b s else Same) ≡ (if c && is_empty s.armed then Halted Halt.Quiet else Same)
+      by_idle true = rest-is b s mode alone
+      by_idle false = refl
 
 -- a thread that is taken begins no sleep
 pub takes_awake : (s : State) (core : ℕ) (e : Effect) → switched s core ≡ Some e → is_sleep e.lines ≡ false
@@ -146,15 +146,15 @@ states_awake b s t core shell retry =
     ap (λ (o : Option ℕ). is_sleep (by_shell b t core s (is_some o && eqb t 0) (thread_at s t).retry).lines) shell
     ∙ ap (λ (r : Option Retry). is_sleep (by_shell b t core s false r).lines) retry
     ∙ by_statement (statement_at (script_of b (thread_at s t).name) (thread_at s t).next) where
-  by_statement : (st : Stmt) → is_sleep (settled_effect b s (done_effect b t core (thread_at s t).name (thread_at s t).next st (with_next s t ((thread_at s t).next + 1)))).lines ≡ false
-  by_statement (Stmt.Print text) = refl
-  by_statement (Stmt.Say what) = refl
-  by_statement (Stmt.Goto k) = refl
-  by_statement (Stmt.IfCode code k) = refl
-  by_statement (Stmt.Count n) = refl
-  by_statement (Stmt.Next k) = refl
-  by_statement Stmt.Exit = refl
-  by_statement (Stmt.Do call) = refl
+      by_statement : (st : Stmt) → is_sleep (settled_effect b s (done_effect b t core (thread_at s t).name (thread_at s t).next st (with_next s t ((thread_at s t).next + 1)))).lines ≡ false
+      by_statement (Stmt.Print text) = refl
+      by_statement (Stmt.Say what) = refl
+      by_statement (Stmt.Goto k) = refl
+      by_statement (Stmt.IfCode code k) = refl
+      by_statement (Stmt.Count n) = refl
+      by_statement (Stmt.Next k) = refl
+      by_statement Stmt.Exit = refl
+      by_statement (Stmt.Do call) = refl
 
 pub awake-append : (xs ys : List Line) → is_sleep xs ≡ false → is_sleep ys ≡ false → is_sleep (xs ++ ys) ≡ false
 awake-append [] ys one other = other

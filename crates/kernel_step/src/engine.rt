@@ -176,7 +176,12 @@ impl Engine {
 
     /// One event: a step of the core, or a tick.
     #[tactic(auto, unfolding(crate::specs::Whole::state_of))]
-    pub(crate) fn event<L: Ledger>(&mut self, event: &Event, out: &mut Lines, steps: &mut Steps<L>) -> Did
+    pub(crate) fn event<L: Ledger>(
+        &mut self,
+        event: &Event,
+        out: &mut Lines,
+        steps: &mut Steps<L>,
+    ) -> Did
         requires built { IsBuilt self.old.kernel.board }
         requires live { self.old.halt ≡ None }
         requires core { is_event_of self.old.kernel.board event.now ≡ true }
