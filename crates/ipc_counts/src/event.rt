@@ -1,4 +1,4 @@
-ghost use Rattle.std.specs.Prelude.{◌≡◌, ◌<◌, ◌≤◌, None, false, length, replicate, bit_and, bit_or, is_some, slice_get, slice_set, IfOk, IfSome, IfNone, IsTrue};
+ghost use Rattle.std.specs.Prelude.{ℕ, ◌≡◌, ◌<◌, ◌≤◌, None, false, List, ◌∷◌, ◌++◌, length, replicate, bit_and, bit_or, is_some, slice_get, slice_set, IfOk, IfSome, IfNone, IsTrue};
 ghost use Rattle.rt_plain.specs.Waiting.{first_of};
 ghost use Rattle.rt_plain.specs.EventCalls.{is_satisfied, flags_after};
 ghost use Rattle.susp_list.specs.Rows.{waiters, line, holds, with_prio};
@@ -77,11 +77,12 @@ impl EventObj {
     pub fn wait(&mut self, thread: ThreadNo, want: Want, prio: Prio, at: u64)
         requires there { thread < length self.old.waiters.rows }
         requires free { holds self.old.waiters thread ≡ false }
-        ensures { let row : Row = record { prio = prio; at = at } in
+        ensures state { let row : Row = record { prio = prio; at = at } in
             self.new ≡ record self.old {
               waiters = record self.old.waiters { rows = slice_set self.old.waiters.rows thread (Some row) };
               wants = slice_set self.old.wants thread want;
             } }
+        ensures wanted { slice_get self.new.wants thread ≡ Some want }
     {
         self.waiters.join(thread, prio, at);
         self.wants[thread.0 as usize] = want;
@@ -90,7 +91,10 @@ impl EventObj {
     /// Ends the wait of a thread.
     pub fn leave(&mut self, thread: ThreadNo)
         requires { IsTrue (holds self.old.waiters thread) }
-        ensures { self.new ≡ record self.old { waiters = without self.old.waiters thread } }
+        ensures state { self.new ≡ record self.old { waiters = without self.old.waiters thread } }
+        // The others stay where they stand.
+        ensures line { (front rest : List ℕ) → line self.old.waiters ≡ front ++ thread ∷ rest
+            → line self.new.waiters ≡ front ++ rest }
     {
         self.waiters.leave(thread);
     }
