@@ -5,7 +5,6 @@ use Rattle.rt_plain.specs.declared.board.Schedule.{Schedule}
 use Rattle.rt_plain.specs.PlainBoard.{PlainBoard}
 use Rattle.rt_plain.specs.Runs.{room}
 use Rattle.rt_kernel.specs.Built.{is_built as is_built_for_kernel, IsBuilt as IsBuiltForKernel}
-use Rattle.rt_kernel.proofs.BuiltLemmas.{built as built-for-kernel}
 use Rattle.kernel_step.specs.Built.{is_built, IsBuilt, is_awake, is_round}
 
 awake : (m : Sleep) → is_awake m ≡ true → m ≡ Sleep.NoSleep
@@ -26,11 +25,13 @@ both true true is = (refl, refl)
 both true false is = absurd cc
 both false b is = absurd cc
 
-pub built : (b : PlainBoard) → is_built b ≡ true → IsBuilt b
-built b is =
-    let parts = both _ _ is in
-    let settings = both _ _ parts.1 in
-    record { kernel = built-for-kernel b parts.0; mode = awake b.default_mode settings.0; schedule = in_rounds b.schedule settings.1 }
+pub for-kernel : (b : PlainBoard) → is_built b ≡ true → is_built_for_kernel b ≡ true
+for-kernel b is = (both _ _ is).0
+
+pub built : (b : PlainBoard) → is_built b ≡ true → IsBuiltForKernel b → IsBuilt b
+built b is kernel =
+    let settings = both _ _ (both _ _ is).1 in
+    record { kernel = kernel; mode = awake b.default_mode settings.0; schedule = in_rounds b.schedule settings.1 }
 
 -- the room for one event's lines
 pub room-built : (b : PlainBoard) → IsBuilt b → room b ≡ (length b.threads + 1) * (2 * length b.threads + 4) + 305
@@ -44,4 +45,4 @@ room-enough b built = rw (room-built b built) (enough (length b.threads)) where
 
 pub ruleset built_room = (room-built)
 
-pub ruleset built_facts = (built)
+pub ruleset built_facts = (for-kernel, built)

@@ -60,7 +60,7 @@ fn go_on<L: Ledger>(
     requires core { core ≡ 0 }
     requires number { kernel.old.state.numbers + 2 < 2 ^ 64 }
     requires empty { out.old.items ≡ [] }
-    requires room { 2 ≤ out.old.room }
+    requires room { length kernel.old.board.threads + 2 ≤ out.old.room }
     ensures board { kernel.new.board ≡ kernel.old.board }
     ensures state { kernel.new.state ≡ (statement_effect kernel.old.board t core kernel.old.state).state }
     ensures lines { out.new.items ≡ (statement_effect kernel.old.board t core kernel.old.state).lines }
@@ -91,7 +91,7 @@ fn at_rest(kernel: &Kernel) -> Did
 fn core_step<L: Ledger>(kernel: &mut Kernel, out: &mut Lines, steps: &mut Steps<L>) -> Did
     requires built { IsBuilt kernel.old.board }
     requires empty { out.old.items ≡ [] }
-    requires room { 2 ≤ out.old.room }
+    requires room { length kernel.old.board.threads + 2 ≤ out.old.room }
     requires number { kernel.old.state.numbers + 2 < 2 ^ 64 }
     ensures gives { Gives (happens kernel.old.board kernel.old.state (Step 0)) result kernel.old.state kernel.new.state out.new.items }
     ensures board { kernel.new.board ≡ kernel.old.board }
@@ -141,7 +141,7 @@ impl Engine {
         requires built { IsBuilt self.old.kernel.board }
         requires live { self.old.halt ≡ None }
         requires empty { out.old.items ≡ [] }
-        requires room { 2 ≤ out.old.room }
+        requires room { length self.old.kernel.board.threads + 2 ≤ out.old.room }
         requires number { self.old.kernel.state.numbers + 2 < 2 ^ 64 }
         ensures gives { Gives (happens self.old.kernel.board (state_of self.old) (Step 0)) result (state_of self.old) (state_of self.new) out.new.items }
         ensures board { self.new.kernel.board ≡ self.old.kernel.board }

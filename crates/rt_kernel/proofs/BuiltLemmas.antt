@@ -12,7 +12,7 @@ use Rattle.rt_plain.specs.PlainBoard.{PlainBoard}
 use Rattle.rt_plain.specs.Statements.{script_of, statement_at}
 use Rattle.rt_plain.specs.Sound.{is_timed, IsProper, IsSized}
 use Rattle.rt_plain.proofs.TallyLemmas.{all-found}
-use Rattle.rt_kernel.specs.Built.{is_built, IsBuilt, is_built_thread, is_built_statement}
+use Rattle.rt_kernel.specs.Built.{is_built, IsBuilt, HasFittingObjects, is_built_thread, is_built_statement}
 
 no_items : {A : Type 0} (xs : List A) → eqb (length xs) 0 ≡ true → xs ≡ []
 no_items [] is = refl
@@ -36,8 +36,8 @@ lt_of m n is = grind arith
 eq_of : (m n : ℕ) → eqb m n ≡ true → m ≡ n
 eq_of m n is = grind arith
 
-pub built : (b : PlainBoard) → is_built b ≡ true → IsBuilt b
-built b is =
+pub built : (b : PlainBoard) → HasFittingObjects b → is_built b ≡ true → IsBuilt b
+built b fitting is =
     let top = both _ _ is in
     let left = both _ _ top.0 in
     let right = both _ _ top.1 in
@@ -47,15 +47,12 @@ built b is =
     let objects = both _ _ classes.0 in
     let limits = both _ _ classes.1 in
     let others = both _ _ limits.1 in
-    let first = both _ _ objects.0 in
     let second = both _ _ objects.1 in
-    let a = both _ _ first.0 in
-    let c = both _ _ first.1 in
+    let c = both _ _ objects.0 in
     let d = both _ _ second.0 in
     let e = both _ _ second.1 in
     record {
-      sems = no_items b.sems a.0;
-      events = no_items b.events a.1;
+      objects = fitting;
       mutexes = no_items b.mutexes c.0;
       mailboxes = no_items b.mailboxes c.1;
       queues = no_items b.queues d.0;
@@ -90,6 +87,13 @@ timed (Stmt.Do (Call.Kill name)) is = refl
 timed (Stmt.Do (Call.SetPrio name prio)) is = refl
 timed (Stmt.Do Call.SchedLock) is = refl
 timed (Stmt.Do Call.SchedUnlock) is = refl
+timed (Stmt.Do (Call.SemCreate name value order)) is = refl
+timed (Stmt.Do (Call.SemTake name timeout)) is = refl
+timed (Stmt.Do (Call.SemRelease name)) is = refl
+timed (Stmt.Do (Call.EventCreate name order)) is = refl
+timed (Stmt.Do (Call.EventSend name mask)) is = refl
+timed (Stmt.Do (Call.EventRecv name mask all clear timeout)) is = refl
+timed (Stmt.Do (Call.Delete class name)) is = refl
 timed (Stmt.Do _) is = absurd cc
 timed _ is = refl
 
@@ -106,8 +110,8 @@ proper b built = record {
 -- and of the sizes that they ask
 pub sized : (b : PlainBoard) → IsBuilt b → IsSized b
 sized b built = record {
-  sems = rw built.sems (omega arith);
-  events = rw built.events (omega arith);
+  sems = omega (arith, built.objects.sem_room, built.sem_limit);
+  events = omega (arith, built.objects.event_room, built.event_limit);
   mutexes = rw built.mutexes (omega arith);
   mailboxes = rw built.mailboxes (omega arith);
   queues = rw built.queues (omega arith);

@@ -5,7 +5,7 @@ use Rattle.std.proofs.lemmas.List.{append-nil, map_more, map-append}
 use Rattle.rt_kernel.specs.declared.rows.Row.{Row}
 use Rattle.rt_plain.specs.declared.board.ThreadDef.{ThreadDef}
 use Rattle.rt_plain.specs.PlainBoard.{PlainBoard}
-use Rattle.rt_plain.specs.State.{State, Thread, is_initial, ArmedRow, Alarm}
+use Rattle.rt_plain.specs.State.{State, Thread, is_initial}
 use Rattle.rt_plain.specs.Opening.{new_script_thread, open_state}
 use Rattle.rt_plain.proofs.Invariant.{Kept}
 use Rattle.rt_plain.proofs.TickLemmas.{still}
@@ -13,6 +13,7 @@ use Rattle.rt_plain.proofs.OpenLemmas.{opened-kept}
 use Rattle.rt_kernel.specs.declared.records.Records.{Records}
 use Rattle.rt_kernel.specs.Built.{IsBuilt, is_built_thread}
 use Rattle.rt_kernel.specs.Inside.{frame_of}
+use Rattle.rt_kernel.specs.Opened.{first_tables}
 use Rattle.rt_kernel.specs.Threads.{plain_thread, row_at}
 use Rattle.rt_kernel.specs.View.{state_of}
 use Rattle.rt_kernel.proofs.BuiltLemmas.{proper}
@@ -53,17 +54,10 @@ length_passes p n = from p 0 n where
 abbrev pub first_ready : List Thread → List ℕ
 first_ready threads = filter (λ t. not (is_initial (row_at threads t).stage)) (range_with_len 0 (length threads))
 
-abbrev pub first_records : List Thread → List ℕ → Records
-first_records threads ready = record { tick = 0; numbers = 0; threads = threads; ready = ready; running = None; armed = [] }
-
-pub opened : (b : PlainBoard) → IsBuilt b → state_of (first_records (map new_script_thread b.threads) (first_ready (map new_script_thread b.threads))) ≡ open_state b
+-- the records of a board before the first statement, by what they stand for
+pub opened : (b : PlainBoard) (k : Records) → IsBuilt b → k.tick ≡ 0 → k.numbers ≡ 0 → k.tables ≡ first_tables b → k.ready ≡ first_ready (map new_script_thread b.threads) → k.running ≡ None → k.armed ≡ [] → state_of k ≡ open_state b
 unfolding open_state
-opened b built = rw (built.shell, built.sems, built.events, built.mutexes, built.mailboxes, built.queues, built.devices, built.timers, built.arrivals, built.cores) refl
-
--- the same from the parts of the records
-pub opened_parts : (b : PlainBoard) (threads rows : List Thread) (ready : List ℕ) (armed : List (ArmedRow Alarm)) → IsBuilt b → rows ≡ threads → threads ≡ map new_script_thread b.threads → ready ≡ first_ready threads → armed ≡ []
-    → state_of (record { tick = 0; numbers = 0; threads = rows; ready = ready; running = None; armed = armed }) ≡ open_state b
-opened_parts b threads rows ready armed built same is first none = rw (same, first, none, is) (opened b built)
+opened b k built tick numbers tables ready running armed = rw (tick, numbers, tables, ready, running, armed, built.shell, built.mutexes, built.mailboxes, built.queues, built.devices, built.timers, built.arrivals, built.cores) refl
 
 pub opened_kept : (b : PlainBoard) (s : State) → IsBuilt b → s ≡ open_state b → Kept (frame_of b s) s
 opened_kept b s built is = subst (λ (u : State). Kept (frame_of b u) u) (sym is) (loosened (still b 0) (open_state b) kept (omega (arith, kept.tick_is))) where

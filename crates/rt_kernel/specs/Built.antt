@@ -1,12 +1,19 @@
 -- Which boards the kernel runs so far. This test goes away once all is built.
-use Rattle.std.specs.Prelude.{◌≡◌, ◌≤◌, ◌<◌, [], IsTrue, Bool, true, false, not, ◌&&◌, None, length, is_some, nat_le, nat_lt, ◌==◌}
-use Rattle.std.specs.List.{list_all}
+use Rattle.std.specs.Prelude.{◌≡◌, ◌≢◌, ◌≤◌, ◌<◌, [], IsTrue, Bool, true, false, not, ◌&&◌, None, length, is_some, nat_le, nat_lt, ◌==◌}
+use Rattle.std.specs.List.{list_all, AllPairs}
+use Rattle.rt_base.specs.declared.codes.Class.{Class}
 use Rattle.rt_plain.specs.declared.board.ThreadDef.{ThreadDef}
 use Rattle.rt_plain.specs.declared.stmt.Call.{Call}
 use Rattle.rt_plain.specs.declared.stmt.Stmt.{Stmt}
 use Rattle.rt_plain.specs.PlainBoard.{PlainBoard}
 
--- a call on threads, a delay of a tick at least among them
+-- the classes of which objects are made and deleted
+abbrev pub is_built_class : Class → Bool
+is_built_class Class.Sem = true
+is_built_class Class.Event = true
+is_built_class _ = false
+
+-- a call on threads, a delay of a tick at least among them, or one on semaphores and event objects
 abbrev pub is_built_call : Call → Bool
 is_built_call (Call.Delay ticks) = nat_lt 0 ticks
 is_built_call Call.Yield = true
@@ -17,6 +24,13 @@ is_built_call (Call.Kill name) = true
 is_built_call (Call.SetPrio name prio) = true
 is_built_call Call.SchedLock = true
 is_built_call Call.SchedUnlock = true
+is_built_call (Call.SemCreate name value order) = true
+is_built_call (Call.SemTake name timeout) = true
+is_built_call (Call.SemRelease name) = true
+is_built_call (Call.EventCreate name order) = true
+is_built_call (Call.EventSend name mask) = true
+is_built_call (Call.EventRecv name mask all clear timeout) = true
+is_built_call (Call.Delete class name) = is_built_class class
 is_built_call _ = false
 
 -- a statement that is no call, or one of these calls
@@ -28,10 +42,10 @@ is_built_statement _ = true
 abbrev pub is_built_thread : ThreadDef → Bool
 is_built_thread def = not (is_some def.core) && (nat_le (length def.script) 512 && list_all is_built_statement def.script)
 
--- no objects besides threads
-abbrev pub has_threads_alone : PlainBoard → Bool
-has_threads_alone b =
-    ((length b.sems == 0) && (length b.events == 0)) && ((length b.mutexes == 0) && (length b.mailboxes == 0))
+-- no objects of other classes than these, and nothing arrives
+abbrev pub has_built_classes_alone : PlainBoard → Bool
+has_built_classes_alone b =
+    ((length b.mutexes == 0) && (length b.mailboxes == 0))
     && (((length b.queues == 0) && (length b.devices == 0)) && ((length b.timers == 0) && (length b.arrivals == 0)))
 
 -- the limits of classes are those that a board may have
@@ -40,12 +54,18 @@ has_limits b = nat_le b.limits.sem 256 && (nat_le b.limits.event 256 && nat_le b
 
 -- one core, no shell, and at most 256 threads
 abbrev pub is_built : PlainBoard → Bool
-is_built b = ((has_threads_alone b && has_limits b) && ((b.cores == 1) && not (is_some b.shell))) && (nat_lt 0 b.until && (nat_le (length b.threads) 256 && list_all is_built_thread b.threads))
+is_built b = ((has_built_classes_alone b && has_limits b) && ((b.cores == 1) && not (is_some b.shell))) && (nat_lt 0 b.until && (nat_le (length b.threads) 256 && list_all is_built_thread b.threads))
+
+-- there is room for the semaphores and event objects, and in each class their names are distinct. Each board has them so
+pub record HasFittingObjects (b : PlainBoard) : Type 0 where
+  pub sem_room : length b.sems ≤ b.limits.sem
+  pub event_room : length b.events ≤ b.limits.event
+  pub sem_names : AllPairs (λ a c. a.name ≢ c.name) b.sems
+  pub event_names : AllPairs (λ a c. a.name ≢ c.name) b.events
 
 -- the same as facts
 pub record IsBuilt (b : PlainBoard) : Type 0 where
-  pub sems : b.sems ≡ []
-  pub events : b.events ≡ []
+  pub objects : HasFittingObjects b
   pub mutexes : b.mutexes ≡ []
   pub mailboxes : b.mailboxes ≡ []
   pub queues : b.queues ≡ []

@@ -1,5 +1,5 @@
 -- What is true of every kernel.
-use Rattle.std.specs.Prelude.{eqb}
+use Rattle.std.specs.Prelude.{◌≡◌, eqb}
 use Rattle.rt_plain.specs.PlainBoard.{PlainBoard}
 use Rattle.rt_plain.specs.State.{State}
 use Rattle.rt_plain.proofs.TallyLemmas.{tally}
@@ -7,13 +7,15 @@ use Rattle.rt_plain.proofs.Invariant.{Frame, Kept}
 use Rattle.rt_plain.proofs.TickLemmas.{less-fits}
 use Rattle.rt_kernel.specs.declared.kernel.Kernel.TheInside.{Inside}
 use Rattle.rt_kernel.specs.Built.{IsBuilt}
+use Rattle.rt_kernel.specs.Limits.{limits_of, board_limits}
 use Rattle.rt_kernel.specs.View.{state_of}
 
 -- now, with what is due now
 abbrev pub frame_of : PlainBoard → State → Frame
 frame_of b s = record { board = b; now = s.tick; low = s.tick; few = tally (λ row. eqb row.due s.tick) s.armed; latest = s.tick; fits = less-fits s.tick }
 
--- the board is built, and what the rules of the kernel keep holds of the state
+-- the board is built, there is room for as many objects as it says, and what the rules of the kernel keep holds of the state
 pub record IsKernel (k : Inside) : Type 0 where
   pub built : IsBuilt k.board
+  pub limits : limits_of k.records.tables ≡ board_limits k.board
   pub kept : Kept (frame_of k.board (state_of k.records)) (state_of k.records)

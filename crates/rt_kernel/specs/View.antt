@@ -10,9 +10,9 @@ abbrev pub state_of : Records → State
 state_of k = record {
   tick = k.tick;
   numbers = k.numbers;
-  threads = k.threads;
-  sems = [];
-  events = [];
+  threads = k.tables.threads;
+  sems = k.tables.sems;
+  events = k.tables.events;
   mutexes = [];
   holdings = [];
   mailboxes = [];

@@ -1,8 +1,18 @@
-ghost use Rattle.std.specs.Prelude.{◌≡◌};
+ghost use Rattle.std.specs.Prelude.{◌≡◌, true};
 ghost use Rattle.std.specs.List.{list_all};
-ghost use Rattle.rt_kernel.specs.Built.{is_built_call, is_built_statement, is_built_thread, has_threads_alone, has_limits, is_built};
+ghost use Rattle.rt_kernel.specs.Built.{is_built_class, is_built_call, is_built_statement, is_built_thread, has_built_classes_alone, has_limits, is_built, HasFittingObjects, IsBuilt};
 
+use rt_base::Class;
 use rt_plain::{Board, Call, Stmt, ThreadDef};
+
+fn is_built_class(class: Class) -> bool
+    ensures { result ≡ is_built_class class }
+{
+    match class {
+        Class::Sem | Class::Event => true,
+        _ => false,
+    }
+}
 
 fn is_built_call(call: &Call) -> bool
     ensures { result ≡ is_built_call call.now }
@@ -12,6 +22,10 @@ fn is_built_call(call: &Call) -> bool
         Call::Yield | Call::SchedLock | Call::SchedUnlock => true,
         Call::Startup(_) | Call::Suspend(_) | Call::Resume(_) => true,
         Call::Kill(_) | Call::SetPrio(_, _) => true,
+        Call::SemCreate(_, _, _) | Call::SemTake(_, _) | Call::SemRelease(_) => true,
+        Call::EventCreate(_, _) | Call::EventSend(_, _) => true,
+        Call::EventRecv(_, _, _, _, _) => true,
+        Call::Delete(class, _) => is_built_class(*class),
         _ => false,
     }
 }
@@ -43,11 +57,10 @@ fn are_built_threads(defs: &[ThreadDef]) -> bool
     defs.iter().all(|def| is_built_thread(def))
 }
 
-fn has_threads_alone(board: &Board) -> bool
-    ensures { result ≡ has_threads_alone board.now }
+fn has_built_classes_alone(board: &Board) -> bool
+    ensures { result ≡ has_built_classes_alone board.now }
 {
-    ((board.sems.len() == 0 && board.events.len() == 0)
-        && (board.mutexes.len() == 0 && board.mailboxes.len() == 0))
+    (board.mutexes.len() == 0 && board.mailboxes.len() == 0)
         && ((board.queues.len() == 0 && board.devices.len() == 0)
             && (board.timers.len() == 0 && board.arrivals.len() == 0))
 }
@@ -58,12 +71,28 @@ fn has_limits(board: &Board) -> bool
     board.limits.sem <= 256 && (board.limits.event <= 256 && board.limits.mutex <= 256)
 }
 
+// What is so of the semaphores and event objects of each board.
+fn object_facts(board: &Board)
+    ensures { HasFittingObjects board.now }
+{
+    let _sems = &board.sems;
+}
+
+/// What the test of a built board says.
+#[tactic(auto, using(crate::proofs::BuiltLemmas::built_facts))]
+pub fn built_facts(board: &Board)
+    requires { is_built board.now ≡ true }
+    ensures { IsBuilt board.now }
+{
+    object_facts(board);
+}
+
 /// Whether the kernel runs the board so far: one core without a shell, at most 256 threads that are bound to no core, no
-/// objects besides them, and no statements but those on threads.
+/// objects besides them but semaphores and event objects, and no statements but those on these.
 pub fn is_built(board: &Board) -> bool
     ensures { result ≡ is_built board.now }
 {
-    ((has_threads_alone(board) && has_limits(board))
+    ((has_built_classes_alone(board) && has_limits(board))
         && (board.cores == 1 && !board.shell.is_some()))
         && (0 < board.until
             && (board.threads.len() <= 256 && are_built_threads(board.threads.as_slice())))

@@ -2,7 +2,6 @@ ghost use Rattle.std.specs.Prelude.{◌≡◌, ◌+◌, ◌<◌, ◌≤◌, ◌^
 ghost use Rattle.rt_plain.specs.Opening.{open_state};
 ghost use Rattle.std.specs.Option.{option_map};
 ghost use Rattle.std.specs.Str.{bytes_eq};
-ghost use Rattle.rt_plain.specs.declared.stmt.Stmt.{Stmt as Statement};
 ghost use Rattle.rt_plain.specs.State.{OfThread, thread_at, running_on, is_closed};
 ghost use Rattle.rt_plain.specs.Owners.{close_effect};
 ghost use Rattle.rt_plain.specs.Statements.{script_of, statement_at, statement_effect};
@@ -27,6 +26,7 @@ ghost use Rattle.rt_kernel.specs.Threads.{row_at, ArePlain};
 ghost use Rattle.rt_kernel.specs.View.{state_of};
 
 use crate::answer::{Answer, By};
+use crate::built::built_facts;
 use crate::records::Records;
 use rt_base::{CoreNo, Name, RunMode, Steps, ThreadNo, TimerNo};
 use rt_plain::{Board, Call, Lines, Stmt, ThreadDef};
@@ -61,22 +61,13 @@ fn facts(board: &Board, records: &Records)
     requires kept { Kept (frame_of board.now (state_of records.now)) (state_of records.now) }
     ensures ready { length records.now.ready ≤ 256 }
     ensures armed { length records.now.armed ≤ 256 }
-    ensures there { AreNumbers records.now.threads records.now.ready }
+    ensures there { AreNumbers records.now.tables.threads records.now.ready }
     ensures once { (u : ℕ) → length (filter (λ v. v == u) records.now.ready) ≤ 1 }
-    ensures running { IfSome records.now.running (λ r. r < length records.now.threads) }
-    ensures next { (r : ℕ) → records.now.running ≡ Some r → (row_at records.now.threads r).next < 2 ^ 16 - 1 }
+    ensures running { IfSome records.now.running (λ r. r < length records.now.tables.threads) }
+    ensures next { (r : ℕ) → records.now.running ≡ Some r → (row_at records.now.tables.threads r).next < 2 ^ 16 - 1 }
 {
     let _board = board;
     let _records = records;
-}
-
-// What the test of a built board says.
-#[tactic(auto, using(crate::proofs::BuiltLemmas::built_facts))]
-fn built_facts(board: &Board)
-    requires { is_built board.now ≡ true }
-    ensures { IsBuilt board.now }
-{
-    let _board = board;
 }
 
 // Whether a thread has this name.
@@ -126,7 +117,7 @@ impl Kernel {
         ensures due { length (due self.now.state) ≤ length self.now.state.threads }
         ensures there { (t : ℕ) → running_on self.now.state 0 ≡ Some t → t < length self.now.state.threads }
     {
-        self.records.threads.facts();
+        self.records.tables.rows().facts();
     }
 
     /// The board for which it was opened.
@@ -185,7 +176,7 @@ impl Kernel {
         requires { thread < length self.now.state.threads }
         ensures { result ≡ (thread_at self.now.state thread).next }
     {
-        self.records.threads.next(thread)
+        self.records.tables.rows().next(thread)
     }
 
     /// Case 3 or 4 of a step: a free core takes a thread, or a core one in place of its own. False exactly where neither
@@ -215,7 +206,7 @@ impl Kernel {
         facts(&self.board, &self.records);
         if let Some(t) = self.records.running {
             if self.records.is_preemptible(t) {
-                self.records.threads.unmark(t);
+                self.records.tables.unmark(t);
             }
         }
     }
@@ -225,8 +216,8 @@ impl Kernel {
         requires { thread < length self.now.state.threads }
         ensures { result ≡ statement_at (script_of self.now.board (thread_at self.now.state thread).name) (thread_at self.now.state thread).next }
     {
-        let name = self.records.threads.name(thread);
-        let k = self.records.threads.next(thread) as usize;
+        let name = self.records.tables.rows().name(thread);
+        let k = self.records.tables.rows().next(thread) as usize;
         match script_of(&self.board, &name).get(k.saturating_sub(1)) {
             Some(statement) => statement.copy(),
             None => Stmt::Exit,
@@ -253,7 +244,7 @@ impl Kernel {
     {
         facts(&self.board, &self.records);
         if let Some(t) = self.records.running {
-            let name = self.records.threads.name(t);
+            let name = self.records.tables.rows().name(t);
             let script = script_of(&self.board, &name);
             self.records.plain(t, script, stmt, out);
         }
@@ -261,7 +252,7 @@ impl Kernel {
 
     /// The call of a thread, which is its next statement, with its line and what follows from it. It answers `Waits`
     /// exactly where the statement table says so, and else the code. It takes at most 2 numbers, and adds at most 2
-    /// lines. No timer is there yet to make a call.
+    /// lines and one for each thread. No timer is there yet to make a call.
     pub fn call<L: Ledger>(
         &mut self,
         by: By,
@@ -271,13 +262,13 @@ impl Kernel {
     ) -> Answer
         requires by { MayCall self.old by call.now }
         requires number { self.old.state.numbers + 2 < 2 ^ 64 }
-        requires lines { length out.old.items + 2 ≤ out.old.room }
+        requires lines { length out.old.items + 2 + length self.old.state.threads ≤ out.old.room }
         ensures board { self.new.board ≡ self.old.board }
         ensures state { (t core : ℕ) → by ≡ ByThreadOn t core → self.new.state ≡ (statement_effect self.old.board t core self.old.state).state }
         ensures lines { (t core : ℕ) → by ≡ ByThreadOn t core → out.new.items ≡ out.old.items ++ (statement_effect self.old.board t core self.old.state).lines }
         ensures answer { (t core : ℕ) → by ≡ ByThreadOn t core → plain_answer result ≡ (outcome_of self.old.board call.now (begun self.old.state t) (ByThread t core) First).answer }
         ensures numbers { self.new.state.numbers ≤ self.old.state.numbers + 2 }
-        ensures few { length out.new.items ≤ length out.old.items + 2 }
+        ensures few { length out.new.items ≤ length out.old.items + 2 + length self.old.state.threads }
         ensures out_room { out.new.room ≡ out.old.room }
     {
         facts(&self.board, &self.records);

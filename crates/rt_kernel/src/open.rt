@@ -1,18 +1,25 @@
-ghost use Rattle.std.specs.Prelude.{◌≡◌, ◌+◌, ◌<◌, ◌≤◌, not, true, [], length, map, filter, None, IfOk};
+ghost use Rattle.std.specs.Prelude.{◌≡◌, not, true, [], reverse, length, map, filter, None, IfOk};
 ghost use Rattle.std.specs.List.{list_all, range_with_len};
 ghost use Rattle.rt_plain.specs.State.{is_initial};
-ghost use Rattle.rt_plain.specs.Opening.{new_script_thread, open_state};
+ghost use Rattle.rt_plain.specs.Opening.{new_script_thread, new_sem, new_event, open_state};
 ghost use Rattle.rt_kernel.specs.Built.{IsBuilt, is_built_thread};
+ghost use Rattle.rt_kernel.specs.Limits.{limits_of, board_limits};
+ghost use Rattle.rt_kernel.specs.Opened.{AreFreeSems, AreFreeEvents, AreEmpty, MayCreateSems, MayCreateEvents, first_tables};
 ghost use Rattle.rt_kernel.specs.Threads.{plain_thread, row_at};
 ghost use Rattle.rt_kernel.specs.View.{state_of};
 
 use crate::armed::ArmedRows;
+use crate::lists::Lists;
 use crate::place::Place;
 use crate::queue::Queue;
 use crate::records::Records;
 use crate::rows::{Row, Rows};
-use rt_base::{Code, ThreadNo};
-use rt_plain::{Board, ThreadDef};
+use crate::tables::Tables;
+use crate::woken::WokenThreads;
+use ipc_counts::{EventObj, Sem};
+use object_box::{ClassLimits, Objects};
+use rt_base::{Class, Code, ThreadNo, WaitOrder};
+use rt_plain::{Board, EventDef, SemDef, ThreadDef};
 use std::alloc::{AllocError, Global};
 
 // A thread of the board before its first statement.
@@ -64,22 +71,109 @@ fn start(threads: &Rows, ready: &mut Queue)
     }
 }
 
+// So many semaphores that nobody waits for, with room for the threads below a number.
+fn free_sems(alloc: Global, count: u16, threads: u16) -> Result<Vec<Sem>, AllocError>
+    ensures { IfOk result (λ sems. AreFreeSems sems.items count threads) }
+{
+    let mut sems = Vec::with_capacity(alloc, count as usize)?;
+    for _ in 0..count {
+        sems.push_reserved(Sem::new(alloc, 0, WaitOrder::Fifo, threads)?);
+    }
+    Ok(sems)
+}
+
+// So many event objects that nobody waits for, with room for the threads below a number.
+fn free_events(alloc: Global, count: u16, threads: u16) -> Result<Vec<EventObj>, AllocError>
+    ensures { IfOk result (λ events. AreFreeEvents events.items count threads) }
+{
+    let mut events = Vec::with_capacity(alloc, count as usize)?;
+    for _ in 0..count {
+        events.push_reserved(EventObj::new(alloc, WaitOrder::Fifo, threads)?);
+    }
+    Ok(events)
+}
+
+impl Lists {
+    // No objects, with room for so many of each class, and for the threads below a number in each wait list.
+    fn new(alloc: Global, sems: u16, events: u16, threads: u16) -> Result<Lists, AllocError>
+        ensures { IfOk result (λ l. AreEmpty l sems events threads) }
+    {
+        let limits = ClassLimits {
+            thread: 0,
+            sem: sems,
+            event: events,
+            mutex: 0,
+            mailbox: 0,
+            msgqueue: 0,
+            timer: 0,
+            device: 0,
+        };
+        let objects = Objects::new(alloc, limits)?;
+        let _ = objects.count(Class::Sem);
+        let _ = objects.count(Class::Event);
+        Ok(Lists {
+            objects,
+            sems: free_sems(alloc, sems, threads)?,
+            events: free_events(alloc, events, threads)?,
+        })
+    }
+}
+
+impl Tables {
+    // The semaphores of the board, in its order.
+    fn create_sems(&mut self, defs: &[SemDef])
+        requires { MayCreateSems self.old defs.now }
+        ensures { self.new ≡ record self.old { sems = reverse (map new_sem defs.now) } }
+    {
+        for def in defs {
+            let _ = self.create_sem(def.name.copy(), def.value, def.order);
+        }
+    }
+
+    // The event objects of the board, in its order.
+    fn create_events(&mut self, defs: &[EventDef])
+        requires { MayCreateEvents self.old defs.now }
+        ensures { self.new ≡ record self.old { events = reverse (map new_event defs.now) } }
+    {
+        for def in defs {
+            let _ = self.create_event(def.name.copy(), def.order);
+        }
+    }
+
+    // The threads and the objects of the board as it opens. No other call takes memory.
+    fn open(alloc: Global, board: &Board) -> Result<Tables, AllocError>
+        requires { IsBuilt board.now }
+        ensures { IfOk result (λ k. k ≡ first_tables board.now) }
+    {
+        let rows = Rows::new(rows_of(alloc, board.threads.as_slice())?);
+        let threads = rows.len() as u16;
+        let lists = Lists::new(alloc, board.limits.sem, board.limits.event, threads)?;
+        let mut tables = Tables { rows, lists };
+        tables.create_sems(board.sems.as_slice());
+        tables.create_events(board.events.as_slice());
+        Ok(tables)
+    }
+}
+
 impl Records {
     // The records as the board opens. No later call takes memory.
     pub fn open(alloc: Global, board: &Board) -> Result<Records, AllocError>
         requires { IsBuilt board.now }
-        ensures { IfOk result (λ k. state_of k ≡ open_state board.now) }
+        ensures state { IfOk result (λ k. state_of k ≡ open_state board.now) }
+        ensures limits { IfOk result (λ k. limits_of k.tables ≡ board_limits board.now) }
     {
-        let threads = Rows::new(rows_of(alloc, board.threads.as_slice())?);
+        let tables = Tables::open(alloc, board)?;
         let mut ready = Queue::new(alloc)?;
-        start(&threads, &mut ready);
+        start(tables.rows(), &mut ready);
         Ok(Records {
             tick: 0,
             numbers: 0,
-            threads,
+            tables,
             ready,
             running: None,
             armed: ArmedRows::new(alloc)?,
+            waited: Queue::new(alloc)?,
+            woken: WokenThreads::new(alloc)?,
         })
     }
 }

@@ -1,7 +1,8 @@
-ghost use Rattle.std.specs.Prelude.{◌≡◌, ◌+◌, ◌<◌, ◌≤◌, ◌^◌, ◌++◌, ◌∷◌, [], length, true, false, Some, decimal, ℕ, List, ◌-◌};
+ghost use Rattle.std.specs.Prelude.{◌≡◌, ◌+◌, ◌<◌, ◌≤◌, ◌^◌, ◌++◌, length, true, Some, decimal, ℕ, List, ◌-◌};
 ghost use Rattle.rt_plain.specs.declared.stmt.Stmt.{Stmt};
 ghost use Rattle.rt_plain.specs.Words.{code_text};
 ghost use Rattle.rt_plain.specs.Statements.{plain_effect, said_text, target};
+ghost use Rattle.rt_kernel.specs.Limits.{limits_of};
 ghost use Rattle.rt_kernel.specs.Plain.{is_plain, printed, plain_did};
 ghost use Rattle.rt_kernel.specs.Threads.{row_at};
 ghost use Rattle.rt_kernel.specs.View.{state_of};
@@ -63,37 +64,39 @@ fn target(script: &[Stmt], k: u16) -> u16
 impl Records {
     // Shows what the last calls of the thread left.
     fn say(&self, t: ThreadNo, what: What, out: &mut Lines)
-        requires there { t < length self.now.threads }
+        requires there { t < length self.now.tables.threads }
         requires lines { length out.old.items < out.old.room }
-        ensures lines { out.new.items ≡ out.old.items ++ printed (said_text what (row_at self.now.threads t)) }
+        ensures lines { out.new.items ≡ out.old.items ++ printed (said_text what (row_at self.now.tables.threads t)) }
         ensures out_room { out.new.room ≡ out.old.room }
     {
         match what {
-            What::Code => print_code(self.threads.code(t), out),
-            What::Value => print_number(self.threads.value(t), out),
-            What::Text => self.threads.facts(),
+            What::Code => print_code(self.tables.rows().code(t), out),
+            What::Value => print_number(self.tables.rows().value(t), out),
+            What::Text => self.tables.rows().facts(),
         }
     }
 
     // Lowers the counter of the thread, and jumps where it is then not 0.
     fn count_down(&mut self, t: ThreadNo, to: u16)
-        requires { t < length self.old.threads }
-        ensures { (script : List Stmt) (k : ℕ) → to ≡ target script k → state_of self.new ≡ (plain_effect script t (Stmt.Next k) (state_of self.old)).state }
+        requires { t < length self.old.tables.threads }
+        ensures state { (script : List Stmt) (k : ℕ) → to ≡ target script k → state_of self.new ≡ (plain_effect script t (Stmt.Next k) (state_of self.old)).state }
+        ensures limits { limits_of self.new.tables ≡ limits_of self.old.tables }
     {
-        let counter = self.threads.counter(t).saturating_sub(1);
-        self.threads.set_counter(t, counter);
+        let counter = self.tables.rows().counter(t).saturating_sub(1);
+        self.tables.set_counter(t, counter);
         if counter != 0 {
-            self.threads.set_next(t, to);
+            self.tables.set_next(t, to);
         }
     }
 
     // What a statement that is no call does.
     fn do_plain(&mut self, t: ThreadNo, script: &[Stmt], stmt: &Stmt, out: &mut Lines)
-        requires there { t < length self.old.threads }
+        requires there { t < length self.old.tables.threads }
         requires short { length script.now ≤ 512 }
         requires plain { is_plain stmt.now ≡ true }
         requires lines { length out.old.items < out.old.room }
         ensures state { state_of self.new ≡ (plain_effect script.now t stmt.now (state_of self.old)).state }
+        ensures limits { limits_of self.new.tables ≡ limits_of self.old.tables }
         ensures lines { out.new.items ≡ out.old.items ++ (plain_effect script.now t stmt.now (state_of self.old)).lines }
         ensures numbers { self.new.numbers ≡ self.old.numbers }
         ensures few { length out.new.items ≤ length out.old.items + 2 }
@@ -102,13 +105,13 @@ impl Records {
         match stmt {
             Stmt::Print(text) => print(text.bytes(), out),
             Stmt::Say(what) => self.say(t, *what, out),
-            Stmt::Goto(k) => self.threads.set_next(t, target(script, *k)),
+            Stmt::Goto(k) => self.tables.set_next(t, target(script, *k)),
             Stmt::IfCode(code, k) => {
-                if self.threads.code(t).number() == code.number() {
-                    self.threads.set_next(t, target(script, *k));
+                if self.tables.rows().code(t).number() == code.number() {
+                    self.tables.set_next(t, target(script, *k));
                 }
             }
-            Stmt::Count(n) => self.threads.set_counter(t, *n),
+            Stmt::Count(n) => self.tables.set_counter(t, *n),
             Stmt::Next(k) => self.count_down(t, target(script, *k)),
             Stmt::Exit => self.close(t, out),
             Stmt::Do(_) => unreachable!(),
@@ -117,20 +120,21 @@ impl Records {
 
     // The next statement of the thread, which is no call.
     pub fn plain(&mut self, t: ThreadNo, script: &[Stmt], stmt: &Stmt, out: &mut Lines)
-        requires there { t < length self.old.threads }
-        requires next { (row_at self.old.threads t).next < 2 ^ 16 - 1 }
+        requires there { t < length self.old.tables.threads }
+        requires next { (row_at self.old.tables.threads t).next < 2 ^ 16 - 1 }
         requires short { length script.now ≤ 512 }
         requires plain { is_plain stmt.now ≡ true }
         requires lines { length out.old.items + 2 ≤ out.old.room }
         ensures state { state_of self.new ≡ (plain_did script.now t stmt.now (state_of self.old)).state }
+        ensures limits { limits_of self.new.tables ≡ limits_of self.old.tables }
         ensures lines { out.new.items ≡ out.old.items ++ (plain_did script.now t stmt.now (state_of self.old)).lines }
         ensures numbers { self.new.numbers ≡ self.old.numbers }
         ensures few { length out.new.items ≤ length out.old.items + 2 }
         ensures out_room { out.new.room ≡ out.old.room }
     {
-        let k = self.threads.next(t);
+        let k = self.tables.rows().next(t);
         self.show_done(t, k, Some(Code::Ok), out);
-        self.threads.set_next(t, k + 1);
+        self.tables.set_next(t, k + 1);
         self.do_plain(t, script, stmt, out);
     }
 }

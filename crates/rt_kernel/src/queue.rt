@@ -40,6 +40,13 @@ impl Queue {
         })
     }
 
+    // Nobody stands in it any more.
+    pub fn clear(&mut self)
+        ensures { self.new ≡ [] }
+    {
+        self.items.clear();
+    }
+
     // How many threads stand in it.
     pub fn len(&self) -> usize
         ensures { result ≡ length self.now }

@@ -1,11 +1,11 @@
-ghost use Rattle.std.specs.Prelude.{◌≡◌, ◌-◌, ◌<◌, ◌≤◌, not, ◌&&◌, length, map, true, false, IfSome, None};
+ghost use Rattle.std.specs.Prelude.{◌≡◌, ◌-◌, ◌<◌, ◌≤◌, ◌&&◌, length, map, true, false, IfSome, None};
 ghost use Rattle.std.specs.List.{position_from};
-ghost use Rattle.std.specs.Str.{bytes_eq};
 ghost use Rattle.rt_plain.specs.State.{is_closed, is_initial, is_suspended, Closed};
 ghost use Rattle.rt_plain.specs.Sound.{is_waiting};
 ghost use Rattle.rt_plain.specs.Due.{timeout_code};
 ghost use Rattle.rt_plain.specs.Rows.{state_at};
 ghost use Rattle.rt_plain.specs.Ticks.{thread_after_slice};
+ghost use Rattle.rt_kernel.specs.Tabled.{woken_row, given_row};
 ghost use Rattle.rt_kernel.specs.Threads.{stage_of, plain_thread, with_row, row_at, is_found, ArePlain};
 
 use crate::place::Place;
@@ -221,6 +221,14 @@ impl Rows {
         self.items[t.0 as usize].place.is_waiting()
     }
 
+    // Where a thread stands.
+    pub fn place(&self, t: ThreadNo) -> &Place
+        requires { t < length self.now }
+        ensures { stage_of result.now ≡ (row_at self.now t).stage }
+    {
+        &self.items[t.0 as usize].place
+    }
+
     // What the table of threads says of a thread, with whether it runs.
     pub fn state(&self, t: ThreadNo, running: bool) -> ThreadState
         requires { t < length self.now }
@@ -299,6 +307,27 @@ impl Rows {
     {
         let row = &mut self.items[t.0 as usize];
         row.base = base;
+    }
+
+    // The thread wakes with a code.
+    pub fn wake(&mut self, t: ThreadNo, code: Code)
+        requires { t < length self.old }
+        ensures { self.new ≡ with_row self.old t (woken_row code) }
+    {
+        let row = &mut self.items[t.0 as usize];
+        row.code = code;
+        row.place = Place::Active;
+    }
+
+    // The thread wakes with the flags that it got.
+    pub fn give(&mut self, t: ThreadNo, flags: u32)
+        requires { t < length self.old }
+        ensures { self.new ≡ with_row self.old t (given_row flags) }
+    {
+        let row = &mut self.items[t.0 as usize];
+        row.value = flags;
+        row.code = Code::Ok;
+        row.place = Place::Active;
     }
 
     // The mark of the thread is gone.

@@ -2,6 +2,7 @@ ghost use Rattle.std.specs.Prelude.{◌≡◌, ◌+◌, ◌<◌, ◌≤◌, ◌+
 ghost use Rattle.rt_plain.specs.Pick.{pick};
 ghost use Rattle.rt_plain.specs.Steps.{with_running, preempted_state, is_preemptible, takes_from};
 ghost use Rattle.rt_kernel.specs.Best.{better, base_of};
+ghost use Rattle.rt_kernel.specs.Limits.{limits_of};
 ghost use Rattle.rt_kernel.specs.Switched.{switched, effect_or, run_effect, preempt_effect, AreNumbers};
 ghost use Rattle.rt_kernel.specs.View.{state_of};
 
@@ -12,15 +13,15 @@ use rt_plain::{Line, Lines};
 impl Records {
     // The better one of what was found and a further thread.
     fn better(&self, found: Option<ThreadNo>, t: ThreadNo) -> Option<ThreadNo>
-        requires there { t < length self.now.threads }
-        requires found { IfSome found (λ u. u < length self.now.threads) }
+        requires there { t < length self.now.tables.threads }
+        requires found { IfSome found (λ u. u < length self.now.tables.threads) }
         ensures is { result ≡ better (base_of (state_of self.now)) found t }
-        ensures there { IfSome result (λ u. u < length self.now.threads) }
+        ensures there { IfSome result (λ u. u < length self.now.tables.threads) }
     {
         match found {
             None => Some(t),
             Some(u) => {
-                if self.threads.base(t).0 < self.threads.base(u).0 {
+                if self.tables.rows().base(t).0 < self.tables.rows().base(u).0 {
                     Some(t)
                 } else {
                     Some(u)
@@ -32,11 +33,11 @@ impl Records {
     // The thread that the core takes next.
     #[tactic(auto, using(crate::proofs::PickLemmas::picking))]
     pub fn pick(&self) -> Option<ThreadNo>
-        requires { AreNumbers self.now.threads self.now.ready }
+        requires { AreNumbers self.now.tables.threads self.now.ready }
         ensures is { result ≡ pick (state_of self.now) 0 }
-        ensures there { IfSome result (λ u. u < length self.now.threads) }
+        ensures there { IfSome result (λ u. u < length self.now.tables.threads) }
     {
-        self.threads.facts();
+        self.tables.rows().facts();
         let mut found = None;
         for i in 0..self.ready.len() {
             found = self.better(found, self.ready.at(i));
@@ -46,27 +47,28 @@ impl Records {
 
     // Whether a running thread may be preempted: it has no scheduler lock.
     pub fn is_preemptible(&self, r: ThreadNo) -> bool
-        requires { r < length self.now.threads }
+        requires { r < length self.now.tables.threads }
         ensures { result ≡ is_preemptible (state_of self.now) 0 r }
     {
-        self.threads.locks(r) == 0
+        self.tables.rows().locks(r) == 0
     }
 
     // Whether the thread p takes the core from the running thread r.
     #[tactic(auto, using(crate::proofs::SwitchLemmas::takes_by_base))]
     fn takes_from(&self, p: ThreadNo, r: ThreadNo) -> bool
-        requires p { p < length self.now.threads }
-        requires r { r < length self.now.threads }
+        requires p { p < length self.now.tables.threads }
+        requires r { r < length self.now.tables.threads }
         ensures { result ≡ takes_from (state_of self.now) p r }
     {
-        let urgency = self.threads.base(p).0;
-        let other = self.threads.base(r).0;
-        urgency < other || (urgency == other && self.threads.is_marked(r))
+        let urgency = self.tables.rows().base(p).0;
+        let other = self.tables.rows().base(r).0;
+        urgency < other || (urgency == other && self.tables.rows().is_marked(r))
     }
 
     // The core runs the thread.
     fn run(&mut self, p: ThreadNo)
-        ensures { state_of self.new ≡ with_running (state_of self.old) 0 p }
+        ensures state { state_of self.new ≡ with_running (state_of self.old) 0 p }
+        ensures limits { limits_of self.new.tables ≡ limits_of self.old.tables }
     {
         self.ready.remove(p);
         self.running = Some(p);
@@ -74,12 +76,13 @@ impl Records {
 
     // The running thread leaves for the end of the ready list if it is marked, and else for its front.
     fn preempt(&mut self, r: ThreadNo)
-        requires there { r < length self.old.threads }
+        requires there { r < length self.old.tables.threads }
         requires room { length self.old.ready < 512 }
-        ensures { state_of self.new ≡ preempted_state (state_of self.old) r }
+        ensures state { state_of self.new ≡ preempted_state (state_of self.old) r }
+        ensures limits { limits_of self.new.tables ≡ limits_of self.old.tables }
     {
-        let marked = self.threads.is_marked(r);
-        self.threads.unmark(r);
+        let marked = self.tables.rows().is_marked(r);
+        self.tables.unmark(r);
         if marked {
             self.ready.push_last(r);
         } else {
@@ -89,44 +92,47 @@ impl Records {
 
     // A free core takes a thread.
     fn run_free(&mut self, p: ThreadNo, out: &mut Lines)
-        requires there { p < length self.old.threads }
+        requires there { p < length self.old.tables.threads }
         requires lines { length out.old.items < out.old.room }
         ensures state { state_of self.new ≡ (run_effect (state_of self.old) 0 p).state }
+        ensures limits { limits_of self.new.tables ≡ limits_of self.old.tables }
         ensures lines { out.new.items ≡ out.old.items ++ (run_effect (state_of self.old) 0 p).lines }
         ensures numbers { self.new.numbers ≡ self.old.numbers }
         ensures few { length out.new.items ≤ length out.old.items + 1 }
         ensures out_room { out.new.room ≡ out.old.room }
     {
-        out.push(Line::Run(self.threads.name(p)));
+        out.push(Line::Run(self.tables.rows().name(p)));
         self.run(p);
     }
 
     // A core takes a thread in place of its own.
     fn run_instead(&mut self, r: ThreadNo, p: ThreadNo, out: &mut Lines)
-        requires p { p < length self.old.threads }
-        requires r { r < length self.old.threads }
+        requires p { p < length self.old.tables.threads }
+        requires r { r < length self.old.tables.threads }
         requires room { length self.old.ready < 512 }
         requires lines { length out.old.items + 2 ≤ out.old.room }
         ensures state { state_of self.new ≡ (preempt_effect (state_of self.old) 0 r p).state }
+        ensures limits { limits_of self.new.tables ≡ limits_of self.old.tables }
         ensures lines { out.new.items ≡ out.old.items ++ (preempt_effect (state_of self.old) 0 r p).lines }
         ensures numbers { self.new.numbers ≡ self.old.numbers }
         ensures few { length out.new.items ≤ length out.old.items + 2 }
         ensures out_room { out.new.room ≡ out.old.room }
     {
-        out.push(Line::Out(self.threads.name(r), !self.threads.is_marked(r)));
-        out.push(Line::Run(self.threads.name(p)));
+        out.push(Line::Out(self.tables.rows().name(r), !self.tables.rows().is_marked(r)));
+        out.push(Line::Run(self.tables.rows().name(p)));
         self.preempt(r);
         self.run(p);
     }
 
     // The core takes a thread, if one may run there: true where it did.
     pub fn switch(&mut self, out: &mut Lines) -> bool
-        requires ready { AreNumbers self.old.threads self.old.ready }
-        requires running { IfSome self.old.running (λ r. r < length self.old.threads) }
+        requires ready { AreNumbers self.old.tables.threads self.old.ready }
+        requires running { IfSome self.old.running (λ r. r < length self.old.tables.threads) }
         requires room { length self.old.ready < 512 }
         requires lines { length out.old.items + 2 ≤ out.old.room }
         ensures answer { result ≡ is_some (switched (state_of self.old) 0) }
         ensures state { state_of self.new ≡ (effect_or (state_of self.old) (switched (state_of self.old) 0)).state }
+        ensures limits { limits_of self.new.tables ≡ limits_of self.old.tables }
         ensures lines { out.new.items ≡ out.old.items ++ (effect_or (state_of self.old) (switched (state_of self.old) 0)).lines }
         ensures numbers { self.new.numbers ≡ self.old.numbers }
         ensures few { length out.new.items ≤ length out.old.items + 2 }

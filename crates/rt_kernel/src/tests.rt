@@ -16,6 +16,10 @@ use std::test::Fail;
 const BOARD: &[u8] =
     b"board 1\ndefault light\nthread a 5 3 any start\n  print \"x\"\n  delay 1\nthread b 9 1 any init\nthread c 7 2 any start\n  startup b\n";
 
+// Two semaphores and an event object, and a thread that sends flags and then waits.
+const OBJECTS: &[u8] =
+    b"board 1\nsem s 3 fifo\nsem t 0 prio\nevent e fifo\nthread a 5 10 any start\n  event_send e 6\n  sem_take t ever\n";
+
 const CORE: CoreNo = CoreNo(0);
 
 // What is done to a kernel: a step of its core with the answer of the call, if it makes one, or a tick.
@@ -89,6 +93,7 @@ fn step<L: Ledger>(
     assert!(rt; kernel.running(CORE) == Some(thread));
     assert!(rt; kernel.next(thread) > 0);
     assert!(rt; kernel.numbers() < 100);
+    assert!(rt; out.spare() >= 2 + kernel.board().threads.len());
     match kernel.next_statement(thread) {
         Stmt::Do(call) => Some(kernel.call(By::Thread(thread, CORE), &call, out, steps)),
         stmt => {
@@ -137,8 +142,8 @@ fn end_thread<L: Ledger>(
     out: &mut Lines,
     steps: &mut Steps<L>,
 ) {
-    assert!(rt; (thread.0 as usize) < kernel.records.threads.len());
-    assert!(rt; !kernel.records.threads.is_closed(thread));
+    assert!(rt; (thread.0 as usize) < kernel.records.tables.rows().len());
+    assert!(rt; !kernel.records.tables.rows().is_closed(thread));
     out.clear();
     assert!(rt; out.spare() >= 1);
     kernel.close(thread, out, steps);
@@ -167,6 +172,36 @@ fn shows(kernel: &Kernel, place: usize, name: &[u8], state: ThreadState, left: u
                 && ticks == left
                 && code == Code::Ok
         }
+        _ => false,
+    }
+}
+
+// Whether the table of semaphores shows this at a place.
+fn shows_sem(kernel: &Kernel, place: usize, name: &[u8], value: u16, waiters: u16) -> bool {
+    if place >= kernel.count(Class::Sem) {
+        return false;
+    }
+    match kernel.row(Class::Sem, place) {
+        Row::Sem {
+            name: its,
+            value: now,
+            waiters: there,
+        } => its.bytes() == name && now == value && there == waiters,
+        _ => false,
+    }
+}
+
+// Whether the table of event objects shows this at a place.
+fn shows_event(kernel: &Kernel, place: usize, name: &[u8], flags: u32, waiters: u16) -> bool {
+    if place >= kernel.count(Class::Event) {
+        return false;
+    }
+    match kernel.row(Class::Event, place) {
+        Row::Event {
+            name: its,
+            flags: now,
+            waiters: there,
+        } => its.bytes() == name && now == flags && there == waiters,
         _ => false,
     }
 }
@@ -201,7 +236,7 @@ fn whole_run<L: Ledger>(rt: &impl Abort, alloc: Global, blank: Blank) -> Result<
     requires one { L.parts ≡ 1 }
 {
     let mut steps: Steps<L> = Steps::new(blank);
-    let mut out = Lines::new(alloc, 4)?;
+    let mut out = Lines::new(alloc, 8)?;
     let mut kernel = opened(rt, alloc)?;
     perform_all(rt, &mut kernel, &begin_stages(), &mut out, &mut steps);
     assert!(rt; shows(&kernel, 0, b"c", ThreadState::Running, 1));
@@ -217,4 +252,28 @@ fn whole_run<L: Ledger>(rt: &impl Abort, alloc: Global, blank: Blank) -> Result<
 #[test]
 fn a_kernel_runs_its_threads(rt: HostRuntime) -> Result<(), Fail> {
     whole_run::<Brand>(&rt, rt.alloc(), Blank::new(1))
+}
+
+fn waiting_run<L: Ledger>(rt: &impl Abort, alloc: Global, blank: Blank) -> Result<(), Fail>
+    requires name { blank.name ≡ L.name }
+    requires parts { blank.parts ≡ L.parts }
+    requires one { L.parts ≡ 1 }
+{
+    let mut steps: Steps<L> = Steps::new(blank);
+    let mut out = Lines::new(alloc, 8)?;
+    let board = parse(alloc, OBJECTS).ok().ok_or("board")?;
+    assert!(rt; is_built(&board));
+    let mut kernel = Kernel::open(alloc, board)?;
+    assert!(rt; step(rt, &mut kernel, &mut out, &mut steps).is_none());
+    assert!(rt; step(rt, &mut kernel, &mut out, &mut steps) == Some(Answer::Code(Code::Ok)));
+    assert!(rt; step(rt, &mut kernel, &mut out, &mut steps) == Some(Answer::Waits));
+    assert!(rt; shows_sem(&kernel, 0, b"t", 0, 1));
+    assert!(rt; shows_sem(&kernel, 1, b"s", 3, 0));
+    assert!(rt; shows_event(&kernel, 0, b"e", 6, 0));
+    Ok(())
+}
+
+#[test]
+fn a_kernel_shows_its_objects(rt: HostRuntime) -> Result<(), Fail> {
+    waiting_run::<Brand>(&rt, rt.alloc(), Blank::new(1))
 }

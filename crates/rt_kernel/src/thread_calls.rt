@@ -5,6 +5,7 @@ ghost use Rattle.rt_plain.specs.State.{find_thread};
 ghost use Rattle.rt_plain.specs.Outcome.{ByThread, refusal, may_not_wait};
 ghost use Rattle.rt_plain.specs.ThreadCalls.{delay, yield as yield_call, startup, suspend as suspend_call, resume, kill, set_prio, sched_lock, sched_unlock, may_suspend};
 ghost use Rattle.rt_kernel.specs.Called.{called, plain_answer};
+ghost use Rattle.rt_kernel.specs.Limits.{limits_of};
 ghost use Rattle.rt_kernel.specs.Prio.{prio_called};
 ghost use Rattle.rt_kernel.specs.View.{state_of};
 
@@ -17,34 +18,35 @@ impl Records {
     // The thread of this name which hasn't ended.
     pub fn find_thread(&self, name: &Name) -> Option<ThreadNo>
         ensures found { result ≡ find_thread (state_of self.now) name.now }
-        ensures there { IfSome result (λ u. u < length self.now.threads) }
+        ensures there { IfSome result (λ u. u < length self.now.tables.threads) }
     {
-        self.threads.find(name)
+        self.tables.rows().find(name)
     }
 
     // Whether a thread may not wait: it has a scheduler lock.
     pub fn may_not_wait(&self, t: ThreadNo) -> bool
-        requires { t < length self.now.threads }
+        requires { t < length self.now.tables.threads }
         ensures { result ≡ may_not_wait (state_of self.now) t 0 }
     {
-        0 < self.threads.locks(t)
+        0 < self.tables.rows().locks(t)
     }
 
     // Statement k of a thread is shown with its code, none where it waits.
     pub fn show_done(&self, t: ThreadNo, k: u16, code: Option<Code>, out: &mut Lines)
-        requires there { t < length self.now.threads }
+        requires there { t < length self.now.tables.threads }
         requires lines { length out.old.items < out.old.room }
         ensures lines { out.new.items ≡ out.old.items ++ DoneLine (name_of (state_of self.now) t) k code ∷ [] }
         ensures out_room { out.new.room ≡ out.old.room }
     {
-        out.push(Line::Done(self.threads.name(t), k, code));
+        out.push(Line::Done(self.tables.rows().name(t), k, code));
     }
 
     // The call is refused with a code.
     pub fn refuse(&mut self, t: ThreadNo, k: u16, code: Code, out: &mut Lines) -> Answer
-        requires there { t < length self.old.threads }
+        requires there { t < length self.old.tables.threads }
         requires lines { length out.old.items < out.old.room }
         ensures state { state_of self.new ≡ (called (state_of self.old) t k (refusal (state_of self.old) code)).state }
+        ensures limits { limits_of self.new.tables ≡ limits_of self.old.tables }
         ensures lines { out.new.items ≡ out.old.items ++ (called (state_of self.old) t k (refusal (state_of self.old) code)).lines }
         ensures answer { plain_answer result ≡ (refusal (state_of self.old) code).answer }
         ensures numbers { self.new.numbers ≡ self.old.numbers }
@@ -52,17 +54,18 @@ impl Records {
         ensures out_room { out.new.room ≡ out.old.room }
     {
         self.show_done(t, k, Some(code), out);
-        self.threads.set_code(t, code);
+        self.tables.set_code(t, code);
         Answer::Code(code)
     }
 
     // A delay of so many ticks.
     pub fn delay(&mut self, t: ThreadNo, k: u16, ticks: u32, out: &mut Lines) -> Answer
-        requires there { t < length self.old.threads }
+        requires there { t < length self.old.tables.threads }
         requires armed { length self.old.armed ≤ 256 }
         requires number { self.old.numbers + 2 < 2 ^ 64 }
         requires lines { length out.old.items + 2 ≤ out.old.room }
         ensures state { state_of self.new ≡ (called (state_of self.old) t k (delay ticks (state_of self.old) (ByThread t 0))).state }
+        ensures limits { limits_of self.new.tables ≡ limits_of self.old.tables }
         ensures lines { out.new.items ≡ out.old.items ++ (called (state_of self.old) t k (delay ticks (state_of self.old) (ByThread t 0))).lines }
         ensures answer { plain_answer result ≡ (delay ticks (state_of self.old) (ByThread t 0)).answer }
         ensures numbers { self.new.numbers ≤ self.old.numbers + 2 }
@@ -80,9 +83,10 @@ impl Records {
 
     // A whole slice again, and the mark.
     pub fn yield_now(&mut self, t: ThreadNo, k: u16, out: &mut Lines) -> Answer
-        requires there { t < length self.old.threads }
+        requires there { t < length self.old.tables.threads }
         requires lines { length out.old.items + 2 ≤ out.old.room }
         ensures state { state_of self.new ≡ (called (state_of self.old) t k (yield_call (state_of self.old) (ByThread t 0))).state }
+        ensures limits { limits_of self.new.tables ≡ limits_of self.old.tables }
         ensures lines { out.new.items ≡ out.old.items ++ (called (state_of self.old) t k (yield_call (state_of self.old) (ByThread t 0))).lines }
         ensures answer { plain_answer result ≡ (yield_call (state_of self.old) (ByThread t 0)).answer }
         ensures numbers { self.new.numbers ≡ self.old.numbers }
@@ -90,17 +94,18 @@ impl Records {
         ensures out_room { out.new.room ≡ out.old.room }
     {
         self.show_done(t, k, Some(Code::Ok), out);
-        self.threads.yield_slice(t);
-        self.threads.set_code(t, Code::Ok);
+        self.tables.yield_slice(t);
+        self.tables.set_code(t, Code::Ok);
         Answer::Code(Code::Ok)
     }
 
     // An initial thread of this name becomes ready.
     pub fn startup(&mut self, t: ThreadNo, k: u16, name: &Name, out: &mut Lines) -> Answer
-        requires there { t < length self.old.threads }
+        requires there { t < length self.old.tables.threads }
         requires ready { length self.old.ready ≤ 256 }
         requires lines { length out.old.items + 2 ≤ out.old.room }
         ensures state { state_of self.new ≡ (called (state_of self.old) t k (startup name.now (state_of self.old))).state }
+        ensures limits { limits_of self.new.tables ≡ limits_of self.old.tables }
         ensures lines { out.new.items ≡ out.old.items ++ (called (state_of self.old) t k (startup name.now (state_of self.old))).lines }
         ensures answer { plain_answer result ≡ (startup name.now (state_of self.old)).answer }
         ensures numbers { self.new.numbers ≡ self.old.numbers }
@@ -110,18 +115,18 @@ impl Records {
         let Some(u) = self.find_thread(name) else {
             return self.refuse(t, k, Code::Inval, out);
         };
-        if !self.threads.is_initial(u) {
+        if !self.tables.rows().is_initial(u) {
             return self.refuse(t, k, Code::Error, out);
         }
         self.show_done(t, k, Some(Code::Ok), out);
         self.start(u, out);
-        self.threads.set_code(t, Code::Ok);
+        self.tables.set_code(t, Code::Ok);
         Answer::Code(Code::Ok)
     }
 
     // Whether a thread may suspend another one: itself where it may wait, another one where it is ready.
     fn may_suspend(&self, t: ThreadNo, u: ThreadNo) -> bool
-        requires { t < length self.now.threads }
+        requires { t < length self.now.tables.threads }
         ensures { result ≡ may_suspend (state_of self.now) (ByThread t 0) u }
     {
         if t.0 == u.0 {
@@ -133,9 +138,10 @@ impl Records {
 
     // The thread of this name is suspended.
     pub fn suspend_named(&mut self, t: ThreadNo, k: u16, name: &Name, out: &mut Lines) -> Answer
-        requires there { t < length self.old.threads }
+        requires there { t < length self.old.tables.threads }
         requires lines { length out.old.items + 2 ≤ out.old.room }
         ensures state { state_of self.new ≡ (called (state_of self.old) t k (suspend_call name.now (state_of self.old) (ByThread t 0))).state }
+        ensures limits { limits_of self.new.tables ≡ limits_of self.old.tables }
         ensures lines { out.new.items ≡ out.old.items ++ (called (state_of self.old) t k (suspend_call name.now (state_of self.old) (ByThread t 0))).lines }
         ensures answer { plain_answer result ≡ (suspend_call name.now (state_of self.old) (ByThread t 0)).answer }
         ensures numbers { self.new.numbers ≡ self.old.numbers }
@@ -150,16 +156,17 @@ impl Records {
         }
         self.show_done(t, k, Some(Code::Ok), out);
         self.suspend(u);
-        self.threads.set_code(t, Code::Ok);
+        self.tables.set_code(t, Code::Ok);
         Answer::Code(Code::Ok)
     }
 
     // The suspended or waiting thread of this name becomes ready.
     pub fn resume(&mut self, t: ThreadNo, k: u16, name: &Name, out: &mut Lines) -> Answer
-        requires there { t < length self.old.threads }
+        requires there { t < length self.old.tables.threads }
         requires ready { length self.old.ready ≤ 256 }
         requires lines { length out.old.items + 2 ≤ out.old.room }
         ensures state { state_of self.new ≡ (called (state_of self.old) t k (resume name.now (state_of self.old))).state }
+        ensures limits { limits_of self.new.tables ≡ limits_of self.old.tables }
         ensures lines { out.new.items ≡ out.old.items ++ (called (state_of self.old) t k (resume name.now (state_of self.old))).lines }
         ensures answer { plain_answer result ≡ (resume name.now (state_of self.old)).answer }
         ensures numbers { self.new.numbers ≡ self.old.numbers }
@@ -169,25 +176,26 @@ impl Records {
         let Some(u) = self.find_thread(name) else {
             return self.refuse(t, k, Code::Inval, out);
         };
-        if self.threads.is_suspended(u) {
+        if self.tables.rows().is_suspended(u) {
             self.show_done(t, k, Some(Code::Ok), out);
-            out.push(Line::Wake(self.threads.name(u), Woke::Code(Code::Ok)));
+            out.push(Line::Wake(self.tables.rows().name(u), Woke::Code(Code::Ok)));
             self.activate(u);
-        } else if self.threads.is_waiting(u) {
+        } else if self.tables.rows().is_waiting(u) {
             self.show_done(t, k, Some(Code::Ok), out);
             self.wake(u, Code::Intr, out);
         } else {
             return self.refuse(t, k, Code::Error, out);
         }
-        self.threads.set_code(t, Code::Ok);
+        self.tables.set_code(t, Code::Ok);
         Answer::Code(Code::Ok)
     }
 
     // The thread of this name ends.
     pub fn kill(&mut self, t: ThreadNo, k: u16, name: &Name, out: &mut Lines) -> Answer
-        requires there { t < length self.old.threads }
+        requires there { t < length self.old.tables.threads }
         requires lines { length out.old.items + 2 ≤ out.old.room }
         ensures state { state_of self.new ≡ (called (state_of self.old) t k (kill name.now (state_of self.old))).state }
+        ensures limits { limits_of self.new.tables ≡ limits_of self.old.tables }
         ensures lines { out.new.items ≡ out.old.items ++ (called (state_of self.old) t k (kill name.now (state_of self.old))).lines }
         ensures answer { plain_answer result ≡ (kill name.now (state_of self.old)).answer }
         ensures numbers { self.new.numbers ≡ self.old.numbers }
@@ -199,49 +207,51 @@ impl Records {
         };
         self.show_done(t, k, Some(Code::Ok), out);
         self.close(u, out);
-        self.threads.set_code(t, Code::Ok);
+        self.tables.set_code(t, Code::Ok);
         Answer::Code(Code::Ok)
     }
 
     // One scheduler lock of the thread more.
     pub fn sched_lock(&mut self, t: ThreadNo, k: u16, out: &mut Lines) -> Answer
-        requires there { t < length self.old.threads }
+        requires there { t < length self.old.tables.threads }
         requires lines { length out.old.items + 2 ≤ out.old.room }
         ensures state { state_of self.new ≡ (called (state_of self.old) t k (sched_lock (state_of self.old) (ByThread t 0))).state }
+        ensures limits { limits_of self.new.tables ≡ limits_of self.old.tables }
         ensures lines { out.new.items ≡ out.old.items ++ (called (state_of self.old) t k (sched_lock (state_of self.old) (ByThread t 0))).lines }
         ensures answer { plain_answer result ≡ (sched_lock (state_of self.old) (ByThread t 0)).answer }
         ensures numbers { self.new.numbers ≡ self.old.numbers }
         ensures few { length out.new.items ≤ length out.old.items + 1 }
         ensures out_room { out.new.room ≡ out.old.room }
     {
-        let locks = self.threads.locks(t);
+        let locks = self.tables.rows().locks(t);
         if locks == u8::MAX {
             return self.refuse(t, k, Code::Full, out);
         }
         self.show_done(t, k, Some(Code::Ok), out);
-        self.threads.set_locks(t, locks + 1);
-        self.threads.set_code(t, Code::Ok);
+        self.tables.set_locks(t, locks + 1);
+        self.tables.set_code(t, Code::Ok);
         Answer::Code(Code::Ok)
     }
 
     // One scheduler lock of the thread less.
     pub fn sched_unlock(&mut self, t: ThreadNo, k: u16, out: &mut Lines) -> Answer
-        requires there { t < length self.old.threads }
+        requires there { t < length self.old.tables.threads }
         requires lines { length out.old.items + 2 ≤ out.old.room }
         ensures state { state_of self.new ≡ (called (state_of self.old) t k (sched_unlock (state_of self.old) (ByThread t 0))).state }
+        ensures limits { limits_of self.new.tables ≡ limits_of self.old.tables }
         ensures lines { out.new.items ≡ out.old.items ++ (called (state_of self.old) t k (sched_unlock (state_of self.old) (ByThread t 0))).lines }
         ensures answer { plain_answer result ≡ (sched_unlock (state_of self.old) (ByThread t 0)).answer }
         ensures numbers { self.new.numbers ≡ self.old.numbers }
         ensures few { length out.new.items ≤ length out.old.items + 1 }
         ensures out_room { out.new.room ≡ out.old.room }
     {
-        let locks = self.threads.locks(t);
+        let locks = self.tables.rows().locks(t);
         if locks == 0 {
             return self.refuse(t, k, Code::Error, out);
         }
         self.show_done(t, k, Some(Code::Ok), out);
-        self.threads.set_locks(t, locks - 1);
-        self.threads.set_code(t, Code::Ok);
+        self.tables.set_locks(t, locks - 1);
+        self.tables.set_code(t, Code::Ok);
         Answer::Code(Code::Ok)
     }
 
@@ -255,11 +265,12 @@ impl Records {
         prio: Prio,
         out: &mut Lines,
     ) -> Answer
-        requires there { t < length self.old.threads }
+        requires there { t < length self.old.tables.threads }
         requires ready { length self.old.ready ≤ 256 }
         requires once { (u : ℕ) → length (filter (λ v. v == u) self.old.ready) ≤ 1 }
         requires lines { length out.old.items + 2 ≤ out.old.room }
         ensures state { state_of self.new ≡ (prio_called (state_of self.old) t k name.now prio).state }
+        ensures limits { limits_of self.new.tables ≡ limits_of self.old.tables }
         ensures lines { out.new.items ≡ out.old.items ++ (prio_called (state_of self.old) t k name.now prio).lines }
         ensures answer { plain_answer result ≡ (set_prio name.now prio (state_of self.old)).answer }
         ensures numbers { self.new.numbers ≡ self.old.numbers }
@@ -269,11 +280,11 @@ impl Records {
         let Some(u) = self.find_thread(name) else {
             return self.refuse(t, k, Code::Inval, out);
         };
-        let old = self.threads.base(u);
-        let name = self.threads.name(u);
+        let old = self.tables.rows().base(u);
+        let name = self.tables.rows().name(u);
         self.show_done(t, k, Some(Code::Ok), out);
-        self.threads.set_base(u, prio);
-        self.threads.set_code(t, Code::Ok);
+        self.tables.set_base(u, prio);
+        self.tables.set_code(t, Code::Ok);
         if old.0 != prio.0 {
             out.push(Line::Cur(name, old, prio));
             self.ready.move_last(u);

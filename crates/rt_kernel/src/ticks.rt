@@ -1,9 +1,10 @@
-ghost use Rattle.std.specs.Prelude.{◌≡◌, ◌+◌, ◌<◌, ◌≤◌, ◌^◌, ◌-◌, ◌++◌, length, Some, None, IfSome};
+ghost use Rattle.std.specs.Prelude.{◌≡◌, ◌+◌, ◌<◌, ◌≤◌, ◌^◌, ◌-◌, ◌++◌, length, Some, IfSome};
 ghost use Rattle.std.specs.Option.{option_map};
 ghost use Rattle.rt_plain.specs.State.{OfThread};
 ghost use Rattle.rt_plain.specs.Due.{due, timeout_effect};
 ghost use Rattle.rt_plain.specs.Ticks.{next_tick_state};
 ghost use Rattle.rt_kernel.specs.Due.{first_alarm, taken};
+ghost use Rattle.rt_kernel.specs.Limits.{limits_of};
 ghost use Rattle.rt_kernel.specs.View.{state_of};
 
 use crate::records::Records;
@@ -14,12 +15,13 @@ impl Records {
     // The tick rises, and the slice of the running thread falls.
     pub fn begin_tick(&mut self)
         requires tick { self.old.tick < 2 ^ 32 - 1 }
-        requires running { IfSome self.old.running (λ r. r < length self.old.threads) }
-        ensures { state_of self.new ≡ next_tick_state (state_of self.old) }
+        requires running { IfSome self.old.running (λ r. r < length self.old.tables.threads) }
+        ensures state { state_of self.new ≡ next_tick_state (state_of self.old) }
+        ensures limits { limits_of self.new.tables ≡ limits_of self.old.tables }
     {
         self.tick += 1;
         if let Some(t) = self.running {
-            self.threads.fall(t);
+            self.tables.fall(t);
         }
     }
 
@@ -28,6 +30,7 @@ impl Records {
     pub fn take_due(&mut self) -> Option<ThreadNo>
         ensures first { first_alarm (due (state_of self.old)) ≡ option_map OfThread result }
         ensures state { state_of self.new ≡ taken (state_of self.old) (option_map OfThread result) }
+        ensures limits { limits_of self.new.tables ≡ limits_of self.old.tables }
     {
         let t = self.armed.first_due(self.tick as u64)?;
         self.armed.remove(t);
@@ -36,16 +39,17 @@ impl Records {
 
     // The row of a thread fires: the thread leaves its wait.
     pub fn fire(&mut self, t: ThreadNo, out: &mut Lines)
-        requires there { t < length self.old.threads }
+        requires there { t < length self.old.tables.threads }
         requires room { length self.old.ready < 512 }
         requires lines { length out.old.items + 2 ≤ out.old.room }
         ensures state { state_of self.new ≡ (timeout_effect t (state_of self.old)).state }
+        ensures limits { limits_of self.new.tables ≡ limits_of self.old.tables }
         ensures lines { out.new.items ≡ out.old.items ++ (timeout_effect t (state_of self.old)).lines }
         ensures numbers { self.new.numbers ≡ self.old.numbers }
         ensures out_room { out.new.room ≡ out.old.room }
     {
-        let code = self.threads.timeout_code(t);
-        out.push(Line::Timeout(self.threads.name(t)));
+        let code = self.tables.rows().timeout_code(t);
+        out.push(Line::Timeout(self.tables.rows().name(t)));
         self.wake(t, code, out);
     }
 }

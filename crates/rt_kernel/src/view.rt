@@ -1,5 +1,4 @@
-ghost use Rattle.std.specs.Prelude.{◌≡◌, ◌<◌, ◌≤◌, ◌∷◌, [], length, slice_get, Some};
-ghost use Rattle.rt_base.specs.declared.codes.Class.{Class as PlainClass};
+ghost use Rattle.std.specs.Prelude.{◌≡◌, ◌<◌, ◌≤◌, length, slice_get, Some};
 ghost use Rattle.rt_plain.specs.State.{is_running};
 ghost use Rattle.rt_plain.specs.Opening.{new_console};
 ghost use Rattle.rt_plain.specs.PowerCalls.{votes_for as plain_votes, sleep_mode};
@@ -82,18 +81,18 @@ impl Records {
     // The row of a thread.
     #[tactic(auto, using(crate::proofs::ViewLemmas::seen))]
     fn thread_row(&self, t: ThreadNo) -> Row
-        requires { t < length self.now.threads }
+        requires { t < length self.now.tables.threads }
         ensures { result ≡ thread_row (state_of self.now) t }
     {
-        self.threads.facts();
+        self.tables.rows().facts();
         Row::Thread {
-            name: self.threads.name(t),
-            cur: self.threads.base(t),
-            base: self.threads.base(t),
-            state: self.threads.state(t, self.is_running(t)),
+            name: self.tables.rows().name(t),
+            cur: self.tables.rows().base(t),
+            base: self.tables.rows().base(t),
+            state: self.tables.rows().state(t, self.is_running(t)),
             core: None,
-            left: self.threads.left(t),
-            code: self.threads.code(t),
+            left: self.tables.rows().left(t),
+            code: self.tables.rows().code(t),
         }
     }
 }
@@ -108,7 +107,9 @@ impl View for Kernel {
     /// The number of objects of a class.
     fn count(&self, class: Class) -> usize {
         match class {
-            Class::Thread => self.records.threads.shown_count(),
+            Class::Thread => self.records.tables.rows().shown_count(),
+            Class::Sem => self.records.tables.sem_count() as usize,
+            Class::Event => self.records.tables.event_count() as usize,
             Class::Device => 1,
             _ => 0,
         }
@@ -119,7 +120,9 @@ impl View for Kernel {
         match class {
             Class::Thread => self
                 .records
-                .thread_row(self.records.threads.shown_at(place)),
+                .thread_row(self.records.tables.rows().shown_at(place)),
+            Class::Sem => self.records.tables.sem_row(place),
+            Class::Event => self.records.tables.event_row(place),
             Class::Device => console_row(),
             _ => unreachable!(),
         }

@@ -138,7 +138,7 @@ fn each_refusal_has_its_status_and_its_line(rt: HostRuntime) -> Result<(), Fail>
         (&["show", "b"], LEADING_ZERO, 6, b"rtsim: line 3: Number\n"),
         (
             &["run", "b"],
-            b"board 1\nsem s 0 fifo\n",
+            b"board 1\nmutex m 5\n",
             10,
             b"rtsim: not built\n",
         ),

@@ -11,5 +11,6 @@ use Rattle.rt_kernel.proofs.kernel.Kernel.begin_tick.Goals as goal
 pub invariant_of-self : goal.invariant_of-self
 invariant_of-self c = record {
   built = c.self.invariant.built;
-  kept = subst (λ (s : State). Kept (frame_of c.self.inside.board s) s) (sym c.begin_tick.ensures) (begun-kept c.self.inside.board (state_of c.self.inside.records) (ap (λ (k : KernelSeen). due k.state) c.self.view_is ∙ c.requires.none) c.self.invariant.kept);
+  limits = c.begin_tick.ensures.limits ∙ c.self.invariant.limits;
+  kept = subst (λ (s : State). Kept (frame_of c.self.inside.board s) s) (sym c.begin_tick.ensures.state) (begun-kept c.self.inside.board (state_of c.self.inside.records) (ap (λ (k : KernelSeen). due k.state) c.self.view_is ∙ c.requires.none) c.self.invariant.kept);
 }

@@ -32,5 +32,6 @@ stated g c =
 pub invariant_of-self : goal.invariant_of-self
 invariant_of-self g c = record {
   built = c.self.invariant.built;
+  limits = c.call.ensures.limits ∙ c.self.invariant.limits;
   kept = subst (λ (u : State). Kept (frame_of c.self.inside.board u) u) (sym (stated g c)) (stated-kept c.self.inside.board (state_of c.self.inside.records) c.in-Thread.t c.in-Thread.field-1 (proper c.self.inside.board c.self.invariant.built) (does g c).runs c.self.invariant.kept);
 }

@@ -16,6 +16,7 @@ invariant_of-self g c =
     let s : State = state_of c.self.inside.records in
     record {
       built = c.self.invariant.built;
+      limits = c.close.ensures.limits ∙ c.self.invariant.limits;
       kept = subst (λ (u : State). Kept (frame_of c.self.inside.board u) u) (ap (λ (e : Effect). e.state) (close_settles c.self.inside.board s c.args.thread refl) ∙ sym c.close.ensures.state)
           (closed-kept c.self.inside.board s c.args.thread c.self.invariant.kept);
     }

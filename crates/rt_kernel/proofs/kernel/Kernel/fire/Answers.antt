@@ -24,6 +24,7 @@ invariant_of-self g c =
     let s : State = state_of c.self.inside.records in
     record {
       built = c.self.invariant.built;
+      limits = c.fire.ensures.limits ∙ c.self.invariant.limits;
       kept = subst (λ (u : State). Kept (frame_of c.self.inside.board u) u) (sym (fired g c))
           (fired-kept c.self.inside.board s c.args.no (ap (λ (k : KernelSeen). is_waiting (thread_at k.state c.args.no).stage) c.self.view_is ∙ c.requires.waits) c.self.invariant.kept);
     }

@@ -3,4 +3,8 @@ use Rattle.rt_kernel.proofs.OpenLemmas.{opened_kept}
 use Rattle.rt_kernel.proofs.kernel.Kernel.open.Goals as goal
 
 pub invariant_of-result : goal.invariant_of-result
-invariant_of-result c = record { built = c.built_facts.ensures; kept = opened_kept c.args.board (state_of c.in_ok-records.records) c.built_facts.ensures c.in_ok-records.ensures }
+invariant_of-result c = record {
+  built = c.built_facts.ensures;
+  limits = c.in_ok-records.ensures.limits;
+  kept = opened_kept c.args.board (state_of c.in_ok-records.records) c.built_facts.ensures c.in_ok-records.ensures.state;
+}

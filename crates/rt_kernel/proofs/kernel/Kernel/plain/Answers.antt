@@ -1,6 +1,6 @@
 use Rattle.std.proofs.Common.{◌≡◌, ◌≤◌, ◌++◌, List, ℕ, Option, Some, refl, sym, ap, ◌∙◌, subst, length}
 use Rattle.rt_plain.specs.declared.stmt.Stmt.{Stmt}
-use Rattle.rt_plain.specs.State.{State, thread_at, running_on}
+use Rattle.rt_plain.specs.State.{State, Thread, thread_at, running_on}
 use Rattle.rt_plain.specs.Effects.{Effect}
 use Rattle.rt_plain.proofs.Invariant.{Kept}
 use Rattle.rt_kernel.specs.Inside.{frame_of}
@@ -8,6 +8,7 @@ use Rattle.rt_kernel.specs.Seen.{KernelSeen, DoesNext}
 use Rattle.rt_kernel.specs.View.{state_of}
 use Rattle.rt_plain.specs.Statements.{script_of, statement_effect}
 use Rattle.rt_kernel.specs.Plain.{plain_did}
+use Rattle.rt_kernel.specs.Threads.{row_at}
 use Rattle.rt_kernel.proofs.BuiltLemmas.{script-short, proper}
 use Rattle.rt_kernel.proofs.KeptLemmas.{stated-kept}
 use Rattle.rt_kernel.proofs.StatementLemmas.{plain_is, first_core}
@@ -27,7 +28,7 @@ does g c =
     subst (λ u. DoesNext (record { board = c.self.inside.board; state = state_of c.self.inside.records }) u c.args.core c.args.stmt.now) (some-same c.requires.next.0 c.in-Some.t c.self.inside.records.running (first_core c.self.inside.records.running c.args.core c.requires.next.0 found.runs).1 c.in-Some.is) found
 
 script : (g : Over) (c : goal.After-plain g) → c.script_of-script.result.now ≡ script_of c.self.inside.board (thread_at (state_of c.self.inside.records) c.in-Some.t).name
-script g c = c.script_of-script.ensures ∙ ap (script_of c.self.inside.board) c.name-name.ensures
+script g c = c.script_of-script.ensures ∙ ap (script_of c.self.inside.board) (c.name-name.ensures ∙ ap (λ (threads : List Thread). (row_at threads c.in-Some.t).name) c.rows.ensures)
 
 effect : (g : Over) (c : goal.After-plain g) → statement_effect c.self.inside.board c.in-Some.t c.args.core (state_of c.self.inside.records) ≡ plain_did c.script_of-script.result.now c.in-Some.t c.args.stmt.now (state_of c.self.inside.records)
 effect g c =
@@ -41,6 +42,7 @@ stated g c = c.plain.ensures.state ∙ sym (ap (λ (e : Effect). e.state) (effec
 pub invariant_of-self : goal.invariant_of-self
 invariant_of-self g c = record {
   built = c.self.invariant.built;
+  limits = c.plain.ensures.limits ∙ c.self.invariant.limits;
   kept = subst (λ (u : State). Kept (frame_of c.self.inside.board u) u) (sym (stated g c)) (stated-kept c.self.inside.board (state_of c.self.inside.records) c.in-Some.t c.args.core (proper c.self.inside.board c.self.invariant.built) (does g c).runs c.self.invariant.kept);
 }
 

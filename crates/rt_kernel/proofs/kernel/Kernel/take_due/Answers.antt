@@ -18,6 +18,7 @@ invariant_of-self-2 g c =
     let s : State = state_of c.self.inside.records in
     record {
       built = c.self.invariant.built;
+      limits = c.take_due.ensures.limits ∙ c.self.invariant.limits;
       kept = subst (λ (u : State). Kept (frame_of c.self.inside.board u) u) (sym (c.take_due.ensures.state ∙ ap (λ (o : Option ℕ). taken s (option_map OfThread o)) c.in_ok-t.was)) (taken-kept c.self.inside.board s (OfThread c.in_ok-t.t) c.self.invariant.kept);
     }
 

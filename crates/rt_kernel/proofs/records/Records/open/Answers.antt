@@ -1,10 +1,11 @@
-use Rattle.std.proofs.Common.{◌∙◌, ap, map}
-use Rattle.rt_plain.specs.PlainBoard.{PlainBoard}
-use Rattle.rt_plain.specs.Opening.{new_script_thread}
-use Rattle.rt_kernel.proofs.OpenLemmas.{opened_parts}
+use Rattle.std.proofs.Common.{◌∙◌, ap, refl, None}
+use Rattle.rt_kernel.specs.declared.records.Records.{Records}
+use Rattle.rt_kernel.specs.Tabled.{Tabled}
+use Rattle.rt_kernel.proofs.OpenLemmas.{opened, first_ready}
 use Rattle.rt_kernel.proofs.records.Records.open.Goals as goal
 
-pub returns : goal.returns
-returns c =
-    let defs = c.as_slice.ensures ∙ ap (λ (b : PlainBoard). b.threads) c.board.view_is in
-    opened_parts c.args.board.now c.new-threads.result _ _ _ c.requires c.threads.view_is (c.new-threads.ensures ∙ c.in_ok-rows_of.ensures ∙ ap (map new_script_thread) defs) c.start.ensures c.in_ok-new.ensures
+pub returns-clause-state : goal.returns-clause-state
+returns-clause-state c =
+    let tables = c.tables.view_is ∙ c.in_ok-tables.ensures in
+    let first : Records = record { tick = 0; numbers = 0; tables = _; ready = c.start.new.ready; running = None; armed = c.in_ok-new.field-0; waited = c.in_ok-new-2.field-0; woken = c.in_ok-new-3.field-0 } in
+    opened c.args.board.now first c.requires refl refl tables (c.start.ensures ∙ ap first_ready (c.rows.ensures ∙ ap (λ (k : Tabled). k.threads) c.in_ok-tables.ensures)) refl c.in_ok-new.ensures

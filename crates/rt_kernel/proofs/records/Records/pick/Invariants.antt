@@ -7,6 +7,6 @@ use Rattle.rt_kernel.proofs.records.Records.pick.Given as goal
 abbrev pub invariant-loop-i : goal.invariant-loop-i
 invariant-loop-i l = record {
   same : l.self ≡ l.fn.self;
-  row : IfSome l.found (λ u. u < length l.fn.self.threads);
+  row : IfSome l.found (λ u. u < length l.fn.self.tables.threads);
   rest : best_from (base_of (state_of l.fn.self)) l.found (drop l.i l.fn.self.ready) ≡ best_from (base_of (state_of l.fn.self)) None l.fn.self.ready;
 }
