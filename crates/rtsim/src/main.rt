@@ -2,6 +2,8 @@
 #![tactic(auto)]
 
 mod ending;
+#[cfg(test)]
+mod object_tests;
 mod reading;
 #[cfg(test)]
 mod tests;
