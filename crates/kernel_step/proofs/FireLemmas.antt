@@ -1,12 +1,12 @@
 -- The rows that are due at a tick fire, one after the other.
-use Rattle.std.proofs.Common.{◌≡◌, ℕ, zero, suc, ◌+◌, ◌*◌, ◌<◌, ◌≤◌, arith, length, List, [], ◌∷◌, ◌++◌, Option, Some, None, false, refl, sym, ap, ◌∙◌, subst, option_map}
+use Rattle.std.proofs.Common.{◌≡◌, ℕ, zero, suc, ◌+◌, ◌*◌, ◌<◌, ◌≤◌, arith, length, List, [], ◌∷◌, ◌++◌, Some, None, false, refl, sym, ap, ◌∙◌, subst}
 use Rattle.std.proofs.lemmas.List.{append-nil, append_assoc}
 use Rattle.rt_plain.specs.declared.line.Line.{Line}
 use Rattle.rt_plain.specs.PlainBoard.{PlainBoard}
 use Rattle.rt_plain.specs.State.{State, ArmedRow, Alarm, OfThread}
-use Rattle.rt_plain.specs.Effects.{Effect, without_alarm}
+use Rattle.rt_plain.specs.Effects.{Effect}
 use Rattle.rt_plain.specs.Calls.{settled_effect}
-use Rattle.rt_plain.specs.Due.{due, due_rows_effect, fired_row_effect, timeout_effect}
+use Rattle.rt_plain.specs.Due.{due, due_rows_effect, timeout_effect}
 use Rattle.rt_plain.specs.Ticks.{alarms_effect}
 use Rattle.rt_plain.specs.Schedules.{is_sleep}
 use Rattle.rt_kernel.specs.Seen.{KernelSeen}

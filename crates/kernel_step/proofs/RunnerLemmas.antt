@@ -12,10 +12,10 @@ use Rattle.rt_plain.specs.Sleeps.{Did, Made, Same, Halted}
 use Rattle.rt_plain.specs.Ticks.{tick_effect}
 use Rattle.rt_plain.specs.Steps.{happens}
 use Rattle.rt_plain.specs.Opening.{open_state}
-use Rattle.rt_plain.specs.Runs.{Course, after, opened, course_after, course_unless, is_over, is_event_of, entry_tick, line_count, IsCompleteIn}
+use Rattle.rt_plain.specs.Runs.{Course, after, opened, course_after, course_unless, is_over, entry_tick, line_count, IsCompleteIn}
 use Rattle.rt_plain.specs.Commands.{run_of}
 use Rattle.std.proofs.lemmas.List.Elements.{All-nil}
-use Rattle.rt_plain.specs.Schedules.{most_turns, Driven, moved, turns, driven, begun, is_stopped, is_sleep_of, state_after, rounds, round_count, closing_event, place_unless_slept, place_after_closing, IsDriveable, IsScheduled, listed_of}
+use Rattle.rt_plain.specs.Schedules.{most_turns, Driven, moved, turns, driven, begun, is_stopped, is_sleep_of, state_after, rounds, round_count, closing_event, place_unless_slept, place_after_closing, IsDriveable, IsScheduled}
 use Rattle.kernel_step.specs.Seen.{MachineSeen, limit_of}
 use Rattle.kernel_step.specs.Built.{IsBuilt}
 use Rattle.kernel_step.specs.Ends.{place_of, stands, turns_left, IsOnWay, IsLimited, HasCompleted}

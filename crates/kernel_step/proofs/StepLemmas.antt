@@ -1,30 +1,25 @@
 -- What a step of a core does, by what it runs and would pick.
-use Rattle.std.proofs.Common.{◌≡◌, ℕ, zero, suc, ◌+◌, ◌<◌, ◌≤◌, ◌&&◌, not, eqb, arith, length, filter, List, [], ◌∷◌, ◌++◌, Option, Some, None, Bool, true, false, refl, sym, ap, ◌∙◌, subst, is_some, IsTrue}
-use Rattle.std.specs.Prelude.{if◌then◌else◌, ◌==◌, nat_lt, nat_le, All}
-use Rattle.std.proofs.lemmas.List.{append-nil}
+use Rattle.std.proofs.Common.{◌≡◌, ℕ, ◌+◌, ◌&&◌, eqb, List, [], ◌∷◌, ◌++◌, Option, Some, None, Bool, true, false, refl, sym, ap, ◌∙◌, subst, is_some}
+use Rattle.std.specs.Prelude.{if◌then◌else◌, nat_le}
 use Rattle.std.specs.List.{list_any}
 use Rattle.rt_base.specs.declared.codes.Event.{Event}
 use Rattle.rt_base.specs.declared.codes.Halt.{Halt}
 use Rattle.rt_base.specs.declared.codes.Sleep.{Sleep}
-use Rattle.rt_base.specs.declared.codes.Code.{Code}
 use Rattle.rt_plain.specs.declared.line.Line.{Line}
 use Rattle.rt_plain.specs.declared.stmt.Stmt.{Stmt}
 use Rattle.rt_plain.specs.PlainBoard.{PlainBoard}
-use Rattle.rt_plain.specs.State.{State, Retry, thread_at, running_on, is_nest_of_other, ArmedRow, Alarm, Device, Nest}
+use Rattle.rt_plain.specs.State.{State, Retry, thread_at, running_on, is_nest_of_other, Device, Nest}
 use Rattle.rt_plain.specs.Pick.{pick}
-use Rattle.rt_plain.specs.Effects.{Effect, and_then, no_effect, name_of}
+use Rattle.rt_plain.specs.Effects.{Effect}
 use Rattle.rt_plain.specs.Statements.{statement_effect, script_effect, script_of, statement_at, done_effect, with_next}
 use Rattle.rt_plain.specs.Shell.{shell_effect}
 use Rattle.rt_plain.specs.Calls.{settled_effect}
-use Rattle.rt_plain.specs.Due.{due, by_number, due_rows_effect}
-use Rattle.rt_plain.specs.Opening.{new_console}
 use Rattle.rt_plain.specs.Schedules.{is_sleep}
-use Rattle.rt_plain.specs.Ticks.{next_tick_state, alarms_effect, deliveries, transmissions, with_until_halt, tick_effect}
 use Rattle.rt_plain.specs.declared.board.Arrival.{Arrival}
 use Rattle.rt_plain.specs.DeviceCalls.{is_sending}
 use Rattle.rt_plain.specs.PowerCalls.{sleep_mode, voted_mode}
 use Rattle.rt_plain.specs.Sleeps.{Did, Made, Same, Halted, is_empty, rest_did, halting_rest_did, awake_rest_did, final_halt, stops_ticks, sleep_length, sleep_did}
-use Rattle.rt_plain.specs.Steps.{happens, core_did, free_core_did, busy_core_did, is_all_idle, did_of_effect, is_preemptible, takes_from, without_mark, unhalted_step_did, unhalted_tick_did}
+use Rattle.rt_plain.specs.Steps.{happens, core_did, free_core_did, busy_core_did, is_all_idle, did_of_effect, is_preemptible, takes_from, without_mark, unhalted_step_did}
 use Rattle.rt_kernel.specs.Seen.{IsAlone}
 use Rattle.kernel_step.specs.declared.did.Did.{Did as Answer}
 use Rattle.kernel_step.specs.declared.did.Did.TheVariants.{Halted as Answered, Same as Stayed}

@@ -1,5 +1,5 @@
 -- What a tick does where only threads have rows.
-use Rattle.std.proofs.Common.{◌≡◌, ℕ, ◌+◌, List, [], ◌∷◌, ◌++◌, Option, Some, None, Bool, true, false, eqb, refl, sym, ap, ◌∙◌, subst}
+use Rattle.std.proofs.Common.{◌≡◌, List, [], ◌++◌, Option, Some, None, Bool, true, false, refl, sym, ap, ◌∙◌, subst}
 use Rattle.std.specs.Prelude.{if◌then◌else◌, ◌==◌, is_some}
 use Rattle.std.proofs.lemmas.List.{append-nil}
 use Rattle.rt_base.specs.declared.codes.Event.{Event}
@@ -8,8 +8,7 @@ use Rattle.rt_plain.specs.declared.line.Line.{Line}
 use Rattle.rt_plain.specs.declared.board.Arrival.{Arrival}
 use Rattle.rt_plain.specs.PlainBoard.{PlainBoard}
 use Rattle.rt_plain.specs.State.{State, Device, Nest}
-use Rattle.rt_plain.specs.Effects.{Effect, and_then, no_effect, each_effect}
-use Rattle.rt_plain.specs.DeviceCalls.{registered_devices, sent, arrival_effect}
+use Rattle.rt_plain.specs.Effects.{Effect, and_then, no_effect}
 use Rattle.rt_plain.specs.Ticks.{next_tick_state, alarms_effect, deliveries, transmissions, with_until_halt, tick_effect}
 use Rattle.rt_plain.specs.Sleeps.{Made, Same}
 use Rattle.rt_plain.specs.Steps.{happens, unhalted_tick_did, did_of_effect}

@@ -1,5 +1,5 @@
 -- What contracts see of a machine.
-use Rattle.std.specs.Prelude.{ℕ, Bool, true, false, Option, Some, None, length, is_some, not, ◌||◌, if◌then◌else◌, nat_lt}
+use Rattle.std.specs.Prelude.{ℕ, Option, Some, None, length, is_some, not, ◌||◌, if◌then◌else◌, nat_lt}
 use Rattle.rt_base.specs.declared.codes.Halt.{Halt}
 use Rattle.rt_base.specs.declared.codes.Event.{Event}
 use Rattle.rt_plain.specs.PlainBoard.{PlainBoard}

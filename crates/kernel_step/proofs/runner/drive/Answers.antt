@@ -2,7 +2,6 @@ use Rattle.std.proofs.Common.{◌≡◌, ◌∙◌, refl, sym, subst, false, tru
 use Rattle.rt_plain.specs.PlainBoard.{PlainBoard}
 use Rattle.rt_plain.specs.Runs.{is_over}
 use Rattle.rt_plain.specs.Schedules.{is_stopped}
-use Rattle.kernel_step.specs.Built.{IsBuilt}
 use Rattle.kernel_step.proofs.RunnerLemmas.{on_way-opened, on_way-turn, on_way-stopped, going}
 use Rattle.kernel_step.proofs.runner.drive.Goals as goal
 

@@ -1,8 +1,3 @@
-use Rattle.std.proofs.Common.{◌≡◌, sym, ap, ◌∙◌}
-use Rattle.rt_plain.specs.declared.line.Line.{Line}
-use Rattle.rt_plain.specs.PlainBoard.{PlainBoard}
-use Rattle.rt_plain.specs.State.{State}
-use Rattle.kernel_step.proofs.StepLemmas.{here}
 use Rattle.kernel_step.proofs.TickLemmas.{tick_gives}
 use Rattle.kernel_step.proofs.engine.Engine.ticks.Goals as goal
 
