@@ -51,7 +51,12 @@ fn objects_wake_their_waiters_as_the_definitions_say(rt: HostRuntime) -> Result<
         ("three_receivers", RECEIVING, RECEIVING_TRACE, b"32-2-2"),
         ("timeouts", TIMING, TIMING_TRACE, b"-2-200"),
         ("wait_orders", ORDERING, ORDERING_TRACE, b"cbda"),
-        ("object_calls", CREATING, CREATING_TRACE, b"-7-5-3-1-1004-10"),
+        (
+            "object_calls",
+            CREATING,
+            CREATING_TRACE,
+            b"-7-5-3-1-1004-10",
+        ),
         ("left_waits", LEAVING, LEAVING_TRACE, b"-9third"),
     ];
     for (name, board, text, console) in rows {
