@@ -25,9 +25,6 @@ use Rattle.rt_kernel.specs.Threads.{row_at}
 use Rattle.rt_kernel.specs.Tied.{AreTied, IsTied, tabled}
 use Rattle.rt_kernel.proofs.TiedLemmas.{tied-changed, row-none, row-got, sem-number, event-number, number_for, number-below, unlisted-sem, unlisted-event, unlisted-known, off-none, no_sem, no_event, set-here}
 
-on-off : (i : ℕ) (o : Option ℕ) → o ≡ None → is_number i o ≡ true → ⊥
-on-off i o none is = false≢true (sym (off-none i o none) ∙ is)
-
 -- the part of a place that a write keeps
 pub set-part : {A P : Type 0} (part : A → P) (xs : List A) (i j : ℕ) (x d : A) → part x ≡ part (slice_index_or xs j d) → part (slice_index_or (slice_set xs j x) i d) ≡ part (slice_index_or xs i d)
 set-part part [] i j x d same = refl

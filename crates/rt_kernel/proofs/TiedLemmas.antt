@@ -235,19 +235,6 @@ slots-length : {S : Type 0} (slots : List S) (d : S) (o : Option ℕ) (change : 
 slots-length slots d None change = refl
 slots-length slots d (Some i) change = length-set slots i (change (slice_index_or slots i d))
 
--- a part of a slot that the change keeps
-pub slots-part : {S P : Type 0} (part : S → P) (slots : List S) (d : S) (o : Option ℕ) (change : S → S) → ((x : S) → part (change x) ≡ part x) → (i : ℕ) → i < length slots → part (slice_index_or (slots_with slots d o change) i d) ≡ part (slice_index_or slots i d)
-slots-part part slots d None change same i within = refl
-slots-part {S = S} part slots d (Some j) change same i within = by_test (eqb i j) refl where
-  by_test : (c : Bool) → eqb i j ≡ c → part (slice_index_or (slice_set slots j (change (slice_index_or slots j d))) i d) ≡ part (slice_index_or slots i d)
-  by_test true is =
-      let at : i ≡ j = eqb-is i j is in
-      ap (λ k. part (slice_index_or (slice_set slots j (change (slice_index_or slots j d))) k d)) at
-      ∙ ap part (set-here slots j (change (slice_index_or slots j d)) d (subst (λ k. k < length slots) at within))
-      ∙ same (slice_index_or slots j d)
-      ∙ ap (λ k. part (slice_index_or slots k d)) (sym at)
-  by_test false is = ap part (set-there slots i j (change (slice_index_or slots j d)) d (eqb-not i j is))
-
 -- of a change of one thread
 pub changed-rows : (P : Stage → Type 0) (threads : List Thread) (t : ℕ) (row : Thread) → t < length threads → P row.stage → ((u : ℕ) → P (row_at threads u).stage) → (u : ℕ) → P (row_at (slice_set threads t row) u).stage
 changed-rows P threads t row there new old u = by_test (eqb u t) refl where

@@ -34,8 +34,9 @@ use std::alloc::{AllocError, Global};
 use std::marker::Model;
 use std::sync::ledger::Ledger;
 
-/// The kernel of a board: its threads, the ready list, who runs, and what is armed. Contracts see the board and the plain
-/// state. All its records are made when it is opened, and no later call takes memory.
+/// The kernel of a board: its threads, its semaphores and event objects, the ready list, who runs, and what is armed.
+/// Contracts see the board and the plain state. All its records are made when it is opened, and no later call takes
+/// memory.
 #[derive(Drop)]
 pub struct Kernel {
     pub(crate) board: Board,
