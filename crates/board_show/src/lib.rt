@@ -7,8 +7,6 @@ mod lines;
 mod showing;
 mod shown;
 mod statements;
-#[cfg(test)]
-mod tests;
 mod writing;
 
 pub use showing::show;

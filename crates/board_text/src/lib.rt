@@ -8,8 +8,6 @@ mod places;
 mod reading;
 mod table;
 mod tails;
-#[cfg(test)]
-mod tests;
 
 pub use fault::BoardFault;
 pub use reading::{LONGEST, parse};

@@ -3,8 +3,6 @@
 
 mod event;
 mod sem;
-#[cfg(test)]
-mod tests;
 mod want;
 mod woken;
 

@@ -4,8 +4,6 @@
 mod fault;
 mod mailbox;
 mod msg_queue;
-#[cfg(test)]
-mod tests;
 
 pub use fault::{Empty, Full, PutFault};
 pub use mailbox::Mailbox;

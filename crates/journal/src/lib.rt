@@ -7,8 +7,6 @@ mod header;
 pub mod laws;
 mod reading;
 mod rows;
-#[cfg(test)]
-mod tests;
 mod traces;
 mod writing;
 

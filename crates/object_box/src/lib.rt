@@ -7,8 +7,6 @@ mod fault;
 mod limits;
 mod object;
 mod objects;
-#[cfg(test)]
-mod tests;
 
 pub use device::DeviceRow;
 pub use fault::{CountFull, Make, NoRate, NotOpen};

@@ -4,8 +4,6 @@
 mod bits;
 mod queues;
 mod ready;
-#[cfg(test)]
-mod tests;
 mod words;
 
 pub use ready::ReadySet;

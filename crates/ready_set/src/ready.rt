@@ -5,6 +5,7 @@ ghost use Rattle.ready_set.specs.ReadyLists.{IsBinding, StandsForRows, empty_vie
 
 use crate::bits::PrioBits;
 use crate::queues::Queues;
+use crate::words::Words;
 use rt_base::{CoreNo, Prio, Steps, ThreadNo};
 use std::alloc::{AllocError, Global};
 use std::marker::Model;
@@ -152,4 +153,27 @@ impl<const G: usize> ReadySet<G> {
         let thread = self.queues.first(place, steps)?;
         Some(ThreadNo(thread))
     }
+}
+
+// A further field doesn't compile: a set has counted words and plain numbers alone.
+fn fields<const G: usize>(set: &ReadySet<G>) {
+    let ReadySet {
+        cores,
+        bits,
+        queues,
+    } = set;
+    let _: &u8 = cores;
+    let PrioBits { tops, groups } = bits;
+    let _: &Words<u32> = tops;
+    let _: &Words<u8> = groups;
+    let Queues {
+        threads,
+        next,
+        prev,
+        places,
+    } = queues;
+    let _: &u16 = threads;
+    let _: &Words<usize> = next;
+    let _: &Words<usize> = prev;
+    let _: &Words<Option<usize>> = places;
 }

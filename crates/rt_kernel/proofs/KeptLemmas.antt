@@ -97,6 +97,10 @@ running-there f s core t kept runs =
     let open_stage : is_closed (thread_at s t).stage ≡ false = active-open (thread_at s t).stage (running-active f s core t kept runs) in
     (is-there s.threads t open_stage, (fine-at f s t kept).2 open_stage)
 
+-- a running thread has not ended
+pub running-open : (f : Frame) (s : State) (core t : ℕ) → Kept f s → running_on s core ≡ Some t → is_closed (thread_at s t).stage ≡ false
+running-open f s core t kept runs = active-open (thread_at s t).stage (running-active f s core t kept runs)
+
 -- a waiting thread is there
 pub waiting-there : (s : State) (t : ℕ) → is_waiting (thread_at s t).stage ≡ true → t < length s.threads
 waiting-there s t waits = is-there s.threads t (waiting-open (thread_at s t).stage waits)

@@ -107,7 +107,8 @@ impl Kernel {
         Ok(Kernel { board, records })
     }
 
-    /// What is so in every kernel: the board is built, and what isn't built yet is constant in the state.
+    /// What is so in every kernel: the board is built, what isn't built yet is constant in the state, and a thread that
+    /// runs has not ended.
     pub fn facts(&self)
         ensures proper { IsProper self.now.board }
         ensures sized { IsSized self.now.board }
@@ -117,6 +118,7 @@ impl Kernel {
         ensures threads { length self.now.state.threads ≡ length self.now.board.threads }
         ensures due { length (due self.now.state) ≤ length self.now.state.threads }
         ensures there { (t : ℕ) → running_on self.now.state 0 ≡ Some t → t < length self.now.state.threads }
+        ensures active { (t : ℕ) → running_on self.now.state 0 ≡ Some t → is_closed (thread_at self.now.state t).stage ≡ false }
     {
         self.records.tables.rows().facts();
     }
@@ -297,6 +299,7 @@ impl Kernel {
         ensures state { self.new.state ≡ taken self.old.state (option_map OfThread result) }
         ensures waits { IfSome result (λ t. is_waiting (thread_at self.new.state t).stage ≡ true) }
         ensures fewer { IfSome result (λ t. length (due self.new.state) < length (due self.old.state)) }
+        ensures none { result ≡ None → due self.new.state ≡ [] }
     {
         let t = self.records.take_due()?;
         Some(TimerNo(t.0))

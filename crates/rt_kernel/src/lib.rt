@@ -21,8 +21,6 @@ mod sem_calls;
 mod sem_table;
 mod switch;
 mod tables;
-#[cfg(test)]
-mod tests;
 mod thread_calls;
 mod ticks;
 mod view;

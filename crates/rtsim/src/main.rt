@@ -1,20 +1,7 @@
 //! Runs the threads of a board file under RT-Thread's kernel rules, and writes what they did.
 #![tactic(auto)]
 
-mod ending;
-#[cfg(test)]
-mod object_tests;
-mod reading;
-#[cfg(test)]
-mod tests;
-#[cfg(test)]
-mod thread_tests;
-mod top;
-mod tracing;
-mod words;
-mod writing;
-
-use ending::Ending;
+use commands::{Ending, rtsim};
 use rt_edge::{DiskFiles, StdSink};
 use std::alloc::AllocError;
 use std::env;
@@ -35,7 +22,7 @@ fn main(rt: HostRuntime) -> ExitCode {
     let mut out = StdSink::new(rt.stdout());
     let mut err = StdSink::new(rt.stderr());
     let status = match given_words(&rt) {
-        Ok(words) => top::rtsim(rt.alloc(), &words, &mut files, &mut out, &mut err),
+        Ok(words) => rtsim(rt.alloc(), &words, &mut files, &mut out, &mut err),
         Err(AllocError) => {
             let _ = Ending::Memory.say("", &mut err);
             Ending::Memory.status()

@@ -4,8 +4,6 @@
 mod list;
 mod ring;
 mod row;
-#[cfg(test)]
-mod tests;
 
 pub use list::SuspList;
 pub use row::Row;

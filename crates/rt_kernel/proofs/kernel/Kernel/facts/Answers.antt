@@ -1,12 +1,12 @@
-use Rattle.std.proofs.Common.{◌≡◌, ◌≤◌, ◌<◌, length, ℕ, Some, subst, refl}
-use Rattle.rt_plain.specs.State.{State, running_on}
+use Rattle.std.proofs.Common.{◌≡◌, ◌≤◌, ◌<◌, length, ℕ, Some, false, subst, refl}
+use Rattle.rt_plain.specs.State.{State, running_on, thread_at, is_closed}
 use Rattle.rt_plain.specs.Due.{due}
 use Rattle.rt_plain.specs.Sound.{IsProper}
 use Rattle.rt_kernel.specs.Inside.{frame_of}
 use Rattle.rt_kernel.specs.Seen.{KernelSeen}
 use Rattle.rt_kernel.specs.View.{state_of}
 use Rattle.rt_kernel.proofs.BuiltLemmas.{proper}
-use Rattle.rt_kernel.proofs.KeptLemmas.{due-few, running-there}
+use Rattle.rt_kernel.proofs.KeptLemmas.{due-few, running-there, running-open}
 use Rattle.rt_kernel.proofs.kernel.Kernel.facts.Goals as goal
 
 pub returns-clause-proper : goal.returns-clause-proper
@@ -21,3 +21,8 @@ pub returns-clause-there : goal.returns-clause-there
 returns-clause-there c =
     let s : State = state_of c.self.inside.records in
     subst (λ (k : KernelSeen). (t : ℕ) → running_on k.state 0 ≡ Some t → t < length k.state.threads) c.self.view_is (λ t runs. (running-there (frame_of c.self.inside.board s) s 0 t c.self.invariant.kept runs).0)
+
+pub returns-clause-active : goal.returns-clause-active
+returns-clause-active c =
+    let s : State = state_of c.self.inside.records in
+    subst (λ (k : KernelSeen). (t : ℕ) → running_on k.state 0 ≡ Some t → is_closed (thread_at k.state t).stage ≡ false) c.self.view_is (λ t runs. running-open (frame_of c.self.inside.board s) s 0 t c.self.invariant.kept runs)

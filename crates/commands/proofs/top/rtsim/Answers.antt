@@ -1,0 +1,70 @@
+use Rattle.std.proofs.Common.{◌≡◌, ◌⊎◌, ◌∙◌, ℕ, ap, subst, sym}
+use Rattle.commands.specs.Endings.{message}
+use Rattle.commands.proofs.SaidLemmas.{said}
+use Rattle.commands.proofs.TopLemmas.{refused-comes, unbuilt-comes, limited-comes, done-comes, refused-by}
+use Rattle.commands.proofs.top.rtsim.Goals as goal
+
+pub returns-clause-refused : goal.returns-clause-refused
+returns-clause-refused g c = λ is. refused-by _ _ c.perform-ending.result c.perform-ending.ensures.cause (sym c.status.ensures ∙ is)
+
+pub returns-clause-refused_comes : goal.returns-clause-refused_comes
+returns-clause-refused_comes g c = λ steady asks.
+    let by = c.perform-ending.ensures in
+    subst (λ (status : ℕ). (status ≡ 6) ⊎ (status ≡ 9)) (sym c.status.ensures)
+    (refused-comes (record { one = c.texts_are_one_board.ensures; good = λ bytes. (c.texts_without_a_bad_line_are_boards.ensures bytes).1 }) _ _ _ _ _ (record {
+      usage = by.usage.0;
+      done = by.done;
+      absent = by.absent;
+      readable = λ is. steady (by.unreadable is);
+      begun = by.begun;
+      cause = by.cause;
+    }) asks)
+
+pub returns-clause-unbuilt_comes : goal.returns-clause-unbuilt_comes
+returns-clause-unbuilt_comes g c = λ steady asks.
+    let by = c.perform-ending.ensures in
+    subst (λ (status : ℕ). (status ≡ 10) ⊎ (status ≡ 9)) (sym c.status.ensures)
+    (unbuilt-comes (record { one = c.texts_are_one_board.ensures; good = λ bytes. (c.texts_without_a_bad_line_are_boards.ensures bytes).1 }) _ _ _ _ _ (record {
+      usage = by.usage.0;
+      done = by.done;
+      absent = by.absent;
+      readable = λ is. steady (by.unreadable is);
+      begun = by.begun;
+      cause = by.cause;
+    }) asks)
+
+pub returns-clause-limited_comes : goal.returns-clause-limited_comes
+returns-clause-limited_comes g c = λ steady asks.
+    let by = c.perform-ending.ensures in
+    subst (λ (status : ℕ). (status ≡ 7) ⊎ (status ≡ 9)) (sym c.status.ensures)
+    (limited-comes (record { one = c.texts_are_one_board.ensures; good = λ bytes. (c.texts_without_a_bad_line_are_boards.ensures bytes).1 }) _ _ _ _ _ (record {
+      usage = by.usage.0;
+      done = by.done;
+      absent = by.absent;
+      readable = λ is. steady (by.unreadable is);
+      begun = by.begun;
+      cause = by.cause;
+    }) asks)
+
+pub returns-clause-done_comes : goal.returns-clause-done_comes
+returns-clause-done_comes g c = λ steady writable asks.
+    let by = c.perform-ending.ensures in
+    subst (λ (status : ℕ). (status ≡ 0) ⊎ (status ≡ 9)) (sym c.status.ensures)
+    (done-comes (record { one = c.texts_are_one_board.ensures; good = λ bytes. (c.texts_without_a_bad_line_are_boards.ensures bytes).1 }) _ _ _ _ _ (record {
+      usage = by.usage.0;
+      done = by.done;
+      absent = by.absent;
+      readable = λ is. steady (by.unreadable is);
+      begun = by.begun;
+      cause = by.cause;
+    }) (λ is. writable (by.unwritable is)) asks)
+
+pub returns-clause-told : goal.returns-clause-told
+returns-clause-told g c = record {
+  ending = c.perform-ending.result;
+  status_is = c.status.ensures;
+  cause = c.perform-ending.ensures.cause;
+  said =
+      let line = ap (λ file. message file c.perform-ending.result) c.named_file.ensures in
+      said c.say.result _ _ _ _ _ _ line c.say.ensures.ok c.say.ensures.front c.say.ensures.failed;
+}

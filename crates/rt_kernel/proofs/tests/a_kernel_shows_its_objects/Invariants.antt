@@ -1,4 +1,0 @@
-use Rattle.rt_kernel.proofs.tests.a_kernel_shows_its_objects.Given as goal
-
-abbrev pub ghosts-waiting_run : goal.ghosts-waiting_run
-ghosts-waiting_run g a = record { name = a.blank.name; parts = a.blank.parts }

@@ -1,0 +1,66 @@
+use crate::outside::{GOOD, perform};
+use std::alloc::{AllocError, Global};
+use std::io;
+use std::io::Write;
+use std::str;
+
+/// The words of a command, and its file.
+#[derive(Drop)]
+pub struct Case {
+    header: Vec<u8>,
+    words: Vec<String>,
+    file: Vec<u8>,
+    ends_in_newline: bool,
+}
+
+impl Case {
+    /// The case that begins with this line, if one does.
+    pub fn begun_by(alloc: Global, line: &[u8]) -> Result<Option<Case>, AllocError> {
+        let ends_in_newline = line.starts_with(b"== ");
+        if !ends_in_newline && !line.starts_with(b"=- ") {
+            return Ok(None);
+        }
+        Ok(Some(Case {
+            header: Vec::from_slice(alloc, line)?,
+            words: words_of(alloc, &line[3..])?,
+            file: Vec::new(alloc),
+            ends_in_newline,
+        }))
+    }
+
+    /// Adds a line to the file.
+    pub fn add_line(&mut self, line: &[u8]) -> Result<(), AllocError> {
+        self.file.extend_from_slice(line)?;
+        self.file.extend_from_slice(b"\n")
+    }
+
+    // The bytes of the file.
+    fn bytes(&self) -> &[u8] {
+        if self.ends_in_newline || self.file.is_empty() {
+            return self.file.as_slice();
+        }
+        &self.file[..self.file.len() - 1]
+    }
+}
+
+// The words of a line.
+fn words_of(alloc: Global, line: &[u8]) -> Result<Vec<String>, AllocError> {
+    let mut words = Vec::new(alloc);
+    if let Ok(text) = str::from_utf8(line) {
+        for word in text.split_whitespace() {
+            words.push(String::from_str(alloc, word)?)?;
+        }
+    }
+    Ok(words)
+}
+
+/// Writes the line that the case began with, its status, what it wrote, and behind `|` its message.
+pub fn tell<W: Write>(alloc: Global, case: &Case, to: &mut W) -> io::Result<()> {
+    let told = perform(alloc, &case.words, case.bytes(), GOOD)?;
+    to.write_all(&case.header)?;
+    writeln!(to, "\nstatus {}", told.status)?;
+    to.write_all(told.out.bytes())?;
+    to.write_all(b"|")?;
+    to.write_all(told.err.bytes())?;
+    to.write_all(b"\n")
+}

@@ -1,0 +1,15 @@
+//! The structures of the kernel, each against worked rows and against a plain list that the test keeps.
+#![tactic(auto)]
+
+#[cfg(test)]
+mod counts;
+#[cfg(test)]
+mod devices;
+#[cfg(test)]
+mod objects;
+#[cfg(test)]
+mod queues;
+#[cfg(test)]
+mod ready;
+#[cfg(test)]
+mod wait_lists;

@@ -1,5 +1,0 @@
-use Rattle.std.proofs.Common.{◌≡◌, length}
-use Rattle.susp_list.proofs.tests.drain.Given as goal
-
-abbrev pub invariant-loop : goal.invariant-loop
-invariant-loop g l = length l.list.rows ≡ 8

@@ -1,8 +1,0 @@
-use Rattle.std.proofs.Common.{◌≡◌, length}
-use Rattle.susp_list.proofs.tests.stands_by_arrival_or_by_priority.Given as goal
-
-abbrev pub invariant-loop-thread : goal.invariant-loop-thread
-invariant-loop-thread g l = length l.list.rows ≡ 4
-
-abbrev pub invariant-loop-thread-2 : goal.invariant-loop-thread-2
-invariant-loop-thread-2 g l = length l.list.rows ≡ 4

@@ -1,0 +1,31 @@
+use board_show::laws::shown_boards_are_read;
+use board_show::show;
+use board_text::parse;
+use rt_plain::Board;
+use std::alloc::Global;
+use std::test::Fail;
+
+// Something of each part of a board that is copied, in canonical text.
+const BOARD: &[u8] =
+    b"board 1\ncores 1\nlevels 32\ntickless on\nuntil 9\nentries 7\nlpmax 5\nthresh 3\ndefault light\nschedule order c0 t\nshell 20\nlimit sem 1\nlimit event 2\nlimit mutex 3\nsem s 1 fifo\nevent e prio\nmutex m 5\nmailbox b 2 fifo\nmsgqueue q 4 8 prio\ndevice uart1 8 9 2 pm s\ntimer t oneshot 5 manual mq_urgent q \"x\"\nthread A 10 10 0 start\n  print \"hi\"\n  goto 1\narrive 5 uart1 \"ab\"\n";
+
+fn read(alloc: Global, text: &[u8]) -> Result<Board, Fail> {
+    Ok(parse(alloc, text).ok().ok_or("no board")?)
+}
+
+#[test]
+fn a_copy_is_the_same_board(rt: HostRuntime) -> Result<(), Fail> {
+    let copy = read(rt.alloc(), BOARD)?.copy(rt.alloc())?;
+    let shown = show(rt.alloc(), &copy)?;
+    assert!(rt; shown.as_slice() == BOARD);
+    Ok(())
+}
+
+#[test]
+fn what_is_shown_is_read_again(rt: HostRuntime) -> Result<(), Fail> {
+    let board = read(rt.alloc(), BOARD)?;
+    let again = shown_boards_are_read(rt.alloc(), &board).ok().ok_or("not read")?;
+    let shown = show(rt.alloc(), &again)?;
+    assert!(rt; shown.as_slice() == BOARD);
+    Ok(())
+}
