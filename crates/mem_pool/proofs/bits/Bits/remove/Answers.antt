@@ -1,0 +1,9 @@
+use Rattle.std.specs.Int.{w64}
+use Rattle.std.proofs.lemmas.Nat.Bits.{bit_at_clear_same, bit_at_clear_other}
+use Rattle.mem_pool.proofs.bits.Bits.remove.Goals as goal
+
+pub returns-clause-here : goal.returns-clause-here
+returns-clause-here c = bit_at_clear_same w64 c.args.self.now.word c.args.number c.requires
+
+pub returns-clause-elsewhere : goal.returns-clause-elsewhere
+returns-clause-elsewhere c k small apart = bit_at_clear_other w64 c.args.self.now.word c.args.number c.requires k small apart

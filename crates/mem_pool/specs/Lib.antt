@@ -1,0 +1,4 @@
+pub mod Bits
+pub mod Pools
+pub mod Frees
+pub mod LendsWaiters

@@ -1,0 +1,2 @@
+pub mod WorkLists
+pub mod Links
