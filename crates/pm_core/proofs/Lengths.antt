@@ -1,5 +1,5 @@
 -- The length that a count finds, from the least of its moments.
-use Rattle.std.proofs.Common.{eq-eqb, ◌≡◌, ℕ, zero, suc, ◌+◌, ◌-◌, ◌<◌, ◌≤◌, Bool, true, false, ◌==◌, List, ◌∷◌, [], ◌++◌, min, append_assoc, Option, None, unwrap_or, refl, arith, subst, ◌⊎◌, inl, inr, get_or, Some}
+use Rattle.std.proofs.Common.{eq-eqb, ◌≡◌, ℕ, zero, suc, ◌+◌, ◌-◌, ◌<◌, ◌≤◌, Bool, true, false, ◌==◌, List, ◌∷◌, [], ◌++◌, min, append_assoc, Option, None, unwrap_or, refl, ◌∙◌, arith, subst, ◌⊎◌, inl, inr, get_or, Some}
 use Rattle.std.proofs.lemmas.Bool.{cases_lt, ne_eqb, or_from, or_left, or_right}
 use Rattle.std.proofs.Math.Nat.{eq-or-lt_of_le}
 use Rattle.std.proofs.lemmas.List.Elements.{All-weaker, All-append, All-cons, All-nil, Contains-append_left, Contains-append_right}
@@ -8,7 +8,12 @@ use Rattle.std.specs.List.{All, Contains}
 use Rattle.std.specs.Option.{ForSome}
 use Rattle.rt_plain.specs.State.{is_among}
 use Rattle.rt_plain.specs.Sleeps.{first_from, must_end, length_to}
-use Rattle.pm_core.specs.Moments.{IsLeastOf}
+use Rattle.pm_core.specs.Moments.{IsLeastAhead}
+
+-- the least of the numbers, or none where there is none
+abbrev IsLeastOf : List ℕ → Option ℕ → Type 0
+IsLeastOf ns None = ns ≡ []
+IsLeastOf ns (Some n) = Contains ns n × All (λ m. n ≤ m) ns
 
 -- one number of a count, by whether it passes
 first_from-step : (test : ℕ → Bool) (bound n d : ℕ) → n ≤ d → (n < d → test n ≡ false) → test d ≡ true → (n < d → first_from test bound (n + 1) (test (n + 1)) ≡ d) → (passes : Bool) → test n ≡ passes → first_from test (suc bound) n passes ≡ d
@@ -92,15 +97,31 @@ IsLeastOf-moments dues arrivals next_due next_arrival until due arrival =
     (IsLeastOf-before dues (arrivals ++ until ∷ []) next_due (min until (unwrap_or next_arrival until)) due
     (IsLeastOf-before arrivals (until ∷ []) next_arrival until arrival (IsLeastOf-one until)))
 
--- a moment that is ahead where there is one
-ahead-of : (now until : ℕ) (next : Option ℕ) → now < until → ForSome next (λ n. now < n) → now < unwrap_or next until
-ahead-of now until None ahead later = ahead
-ahead-of now until (Some n) ahead later = later n refl
+-- what is so many ticks ahead, as a moment
+moment_ahead : ℕ → Option ℕ → Option ℕ
+moment_ahead now None = None
+moment_ahead now (Some ticks) = Some (now + ticks)
 
--- the length of a sleep, computed at once
-pub length_to-computed : (dues arrivals : List ℕ) (next_due next_arrival : Option ℕ) (now until longest : ℕ) → now < until → ForSome next_due (λ n. now < n) → ForSome next_arrival (λ n. now < n) → 1 ≤ longest → IsLeastOf dues next_due → IsLeastOf arrivals next_arrival → length_to (dues ++ arrivals ++ until ∷ []) longest now ≡ min (min (min until (unwrap_or next_due until)) (unwrap_or next_arrival until) - now) longest
-length_to-computed dues arrivals next_due next_arrival now until longest ahead due_later arrival_later long due arrival =
-    let d : now < unwrap_or next_due until = ahead-of now until next_due ahead due_later in
-    let a : now < unwrap_or next_arrival until = ahead-of now until next_arrival ahead arrival_later in
-    length_to-least (dues ++ arrivals ++ until ∷ []) longest now (min (min until (unwrap_or next_due until)) (unwrap_or next_arrival until))
-    (omega arith) long (IsLeastOf-moments dues arrivals next_due next_arrival until due arrival)
+IsLeastOf-ahead : (now : ℕ) (ms : List ℕ) (next : Option ℕ) → IsLeastAhead now ms next → IsLeastOf ms (moment_ahead now next)
+unfolding moment_ahead
+IsLeastOf-ahead now ms None h = h
+IsLeastOf-ahead now ms (Some ticks) h = h
+
+-- the nearest of the moments, and the longest length, by how far ahead they are
+nearest : (next_due next_arrival : Option ℕ) (now until longest : ℕ) → 1 ≤ until → ForSome next_due (λ n. 1 ≤ n) → ForSome next_arrival (λ n. 1 ≤ n)
+    → let end = min (min (now + until) (unwrap_or (moment_ahead now next_due) (now + until))) (unwrap_or (moment_ahead now next_arrival) (now + until)) in
+    (now < end) × (min (end - now) longest ≡ min (min (min longest until) (unwrap_or next_due longest)) (unwrap_or next_arrival longest))
+unfolding moment_ahead
+nearest None None now until longest some due arrival = (omega arith, omega arith)
+nearest None (Some a) now until longest some due arrival = let more = arrival a refl in (omega arith, omega arith)
+nearest (Some d) None now until longest some due arrival = let more = due d refl in (omega arith, omega arith)
+nearest (Some d) (Some a) now until longest some due arrival = let more = arrival a refl in let too = due d refl in (omega arith, omega arith)
+
+-- the length of a sleep before the clock's counts, computed at once
+pub length_to-computed : (dues arrivals : List ℕ) (next_due next_arrival : Option ℕ) (now until longest : ℕ) → 1 ≤ until → ForSome next_due (λ n. 1 ≤ n) → ForSome next_arrival (λ n. 1 ≤ n) → 1 ≤ longest → IsLeastAhead now dues next_due → IsLeastAhead now arrivals next_arrival → length_to (dues ++ arrivals ++ (now + until) ∷ []) longest now ≡ min (min (min longest until) (unwrap_or next_due longest)) (unwrap_or next_arrival longest)
+length_to-computed dues arrivals next_due next_arrival now until longest some due_later arrival_later long due arrival =
+    let d = moment_ahead now next_due in
+    let a = moment_ahead now next_arrival in
+    let near = nearest next_due next_arrival now until longest some due_later arrival_later in
+    length_to-least (dues ++ arrivals ++ (now + until) ∷ []) longest now (min (min (now + until) (unwrap_or d (now + until))) (unwrap_or a (now + until)))
+    near.0 long (IsLeastOf-moments dues arrivals d a (now + until) (IsLeastOf-ahead now dues next_due due) (IsLeastOf-ahead now arrivals next_arrival arrival)) ∙ near.1

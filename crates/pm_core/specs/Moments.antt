@@ -1,10 +1,10 @@
 -- The moments that a sleep must not pass, and what is answered for its length.
-use Rattle.std.specs.Prelude.{ℕ, ◌≡◌, ◌≤◌, List, [], All, Contains, Option, Some, None, nat_le, if◌then◌else◌}
+use Rattle.std.specs.Prelude.{ℕ, ◌≡◌, ◌+◌, ◌≤◌, List, [], All, Contains, Option, Some, None, nat_le, if◌then◌else◌}
 
--- the least of the numbers, or none where there is none
-abbrev pub IsLeastOf : List ℕ → Option ℕ → Type 0
-IsLeastOf ns None = ns ≡ []
-IsLeastOf ns (Some n) = Contains ns n × All (λ m. n ≤ m) ns
+-- the least of the moments is so many ticks ahead of now, or there is none
+abbrev pub IsLeastAhead : ℕ → List ℕ → Option ℕ → Type 0
+IsLeastAhead now moments None = moments ≡ []
+IsLeastAhead now moments (Some ticks) = Contains moments (now + ticks) × All (λ m. now + ticks ≤ m) moments
 
 -- the length where it is no less than the threshold
 abbrev pub long_enough : ℕ → ℕ → Option ℕ
