@@ -267,6 +267,22 @@ impl MutexGraph {
         settle(&self.owners, &mut self.curs, &self.before, out);
     }
 
+    /// Whether a thread is there.
+    pub fn has_thread(&self, thread: ThreadNo) -> bool
+        requires { thread < length self.now.members }
+        ensures { result ≡ has_thread self.now thread }
+    {
+        self.owners.has(thread)
+    }
+
+    /// Whether a mutex is there.
+    pub fn has_mutex(&self, mutex: ObjNo) -> bool
+        requires { mutex < length self.now.ceilings }
+        ensures { result ≡ has_mutex self.now mutex }
+    {
+        self.owners.ceiling(mutex).is_some()
+    }
+
     /// The current priority of a thread.
     pub fn cur(&self, thread: ThreadNo) -> Prio
         requires { IsTrue (has_thread self.now thread) }
@@ -330,24 +346,5 @@ impl MutexGraph {
         ensures { result ≡ length (waiters_in self.now mutex) }
     {
         count_waiters(&self.owners, mutex)
-    }
-}
-
-#[cfg(test)]
-impl MutexGraph {
-    // Whether a thread is there.
-    pub fn has_thread(&self, thread: ThreadNo) -> bool
-        requires { thread < length self.now.members }
-        ensures { result ≡ has_thread self.now thread }
-    {
-        self.owners.has(thread)
-    }
-
-    // Whether a mutex is there.
-    pub fn has_mutex(&self, mutex: ObjNo) -> bool
-        requires { mutex < length self.now.ceilings }
-        ensures { result ≡ has_mutex self.now mutex }
-    {
-        self.owners.ceiling(mutex).is_some()
     }
 }
