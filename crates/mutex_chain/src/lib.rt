@@ -9,6 +9,7 @@ mod graph;
 pub mod laws;
 mod owners;
 mod passes;
+mod raising;
 mod rows;
 mod waiter;
 mod woken;
