@@ -38,7 +38,7 @@ cur_small o t s h =
     by_row None k r = absurd (false≢true k)
     by_row (Some m) k r = r
 
-filter_map_range : {X : Type 0} (f g : ℕ → Option X) (a n : ℕ) → ((x : ℕ) → a ≤ x → x < a + n → f x ≡ g x) → filter_map f (range_with_len a n) ≡ filter_map g (range_with_len a n)
+pub filter_map_range : {X : Type 0} (f g : ℕ → Option X) (a n : ℕ) → ((x : ℕ) → a ≤ x → x < a + n → f x ≡ g x) → filter_map f (range_with_len a n) ≡ filter_map g (range_with_len a n)
 filter_map_range f g a zero e = refl
 filter_map_range f g a (suc n) e =
     ap (λ r. cons_option r (filter_map f (range_with_len (a + 1) n))) (e a (omega arith) (omega arith))

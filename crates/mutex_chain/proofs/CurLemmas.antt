@@ -52,7 +52,7 @@ found_has P p hs all = by_row (find p hs) refl
     by_row (Some h) e = found P p hs h all e
 
 -- no owner of an awaited mutex stands outside the table
-owner_within : (o : Ownership) (m b : ℕ) → IsSound o → owner_in o m ≡ Some b → b < length o.members
+pub owner_within : (o : Ownership) (m b : ℕ) → IsSound o → owner_in o m ≡ Some b → b < length o.members
 owner_within o m b s e = by_row (taken_of o m) refl e
   where
     by_row : (r : Option Taken) → taken_of o m ≡ r → option_map (λ (h : Taken). h.owner) r ≡ Some b → b < length o.members

@@ -223,7 +223,7 @@ cur_glb g t c h each =
     rw (cur_is_min g t h) (min_glb (urgency_of g) (reaches g t) 0 (length g.blockers) (urgency_of g t) c (each t (reaches_itself g t)) (λ y low high r. each y r))
 
 -- a waiter is at most as urgent as the one that it waits for
-waiter_less : (g : Graph) (x t : ℕ) → t < length g.blockers → x < length g.blockers → blocker_of g x ≡ Some t → cur_of g t ≤ cur_of g x
+pub waiter_less : (g : Graph) (x t : ℕ) → t < length g.blockers → x < length g.blockers → blocker_of g x ≡ Some t → cur_of g t ≤ cur_of g x
 waiter_less g x t h k e = cur_glb g x (cur_of g t) k (λ y r. cur_le g t y h (sym (stable g t h y) ∙ one_more (length g.blockers) g x t y e r))
 
 is_waiter : (t : ℕ) (o : Option ℕ) → is_one_of (t ∷ []) o ≡ true → o ≡ Some t
@@ -272,6 +272,23 @@ along (suc k) g f t y s h r = ⊎_elim (λ m. let same : f t ≡ f y = ap f (onl
         let next : f w.0 ≤ f y =
         rw (s w.0 small) (min_le f (λ x. is_one_of (w.0 ∷ []) (blocker_of g x)) 0 (length g.blockers) (urgency_of g w.0) y (omega arith) (omega arith) (ap (is_one_of (w.0 ∷ [])) w.1 ∙ itself w.0)) in
         trans (f t) (f w.0) (f y) (again w.0 w.2) next
+
+-- along a chain numbers that are no less urgent than a waiter's don't get less urgent
+down : (k : ℕ) (g : Graph) (f : ℕ → ℕ) (t y : ℕ) → ((x b : ℕ) → blocker_of g x ≡ Some b → f b ≤ f x) → meets_in k g t y ≡ true → f t ≤ f y
+down zero g f t y edges r = let same : f t ≡ f y = ap f (only t y r) in omega arith
+down (suc k) g f t y edges r = ⊎_elim (λ m. let same : f t ≡ f y = ap f (only t y m) in omega arith) (further (λ v m. down k g f t v edges m)) (or_cases (is_among (t ∷ []) y) (hits_on (λ v. meets_in k g t v) (blocker_of g y)) r)
+  where
+    further : ((v : ℕ) → meets_in k g t v ≡ true → f t ≤ f v) → hits_on (λ v. meets_in k g t v) (blocker_of g y) ≡ true → f t ≤ f y
+    further again m =
+        let w = went_on (λ v. meets_in k g t v) (blocker_of g y) m in
+        trans (f t) (f w.0) (f y) (again w.0 w.2) (edges y w.0 w.1)
+
+-- numbers that are no less urgent than the own urgencies and than a waiter's are no less urgent than the current priorities
+pub below_cur : (g : Graph) (f : ℕ → ℕ) → ((t : ℕ) → t < length g.blockers → f t ≤ urgency_of g t) → ((x b : ℕ) → blocker_of g x ≡ Some b → f b ≤ f x)
+    → (t : ℕ) → t < length g.blockers → f t ≤ cur_of g t
+below_cur g f own edges t h =
+    cur_glb g t (f t) h (λ y r.
+    trans (f t) (f y) (urgency_of g y) (down (length g.blockers) g f t y edges r) (own y (reach_within (length g.blockers) g t y h r)))
 
 pub cur_is_least_urgent : (g : Graph) (f : ℕ → ℕ) → IsSolution g f → (t : ℕ) → t < length g.blockers → f t ≤ cur_of g t
 cur_is_least_urgent g f s t h =

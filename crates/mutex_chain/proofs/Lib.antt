@@ -7,7 +7,10 @@ pub mod ChangeLemmas
 pub mod CurLemmas
 pub mod OwnerLemmas
 pub mod PassLemmas
+pub mod PutLemmas
+pub mod RaiseLemmas
 pub mod ReachLemmas
+pub mod StrongLemmas
 pub mod TouchLemmas
 pub mod UrgencyLemmas
 pub mod WalkLemmas

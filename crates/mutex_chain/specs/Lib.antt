@@ -2,3 +2,4 @@ pub mod Owners
 pub mod Walks
 pub mod Graph
 pub mod Equations
+pub mod Raising

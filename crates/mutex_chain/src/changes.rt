@@ -1,4 +1,5 @@
-ghost use Rattle.std.specs.Prelude.{◌≡◌, ◌<◌, ◌∷◌, ◌++◌, [], length, IfOk};
+ghost use Rattle.std.specs.Prelude.{◌≡◌, ◌<◌, ◌∷◌, ◌++◌, [], Some, length, IfOk};
+ghost use Rattle.mutex_chain.specs.Raising.{place_among, put_change};
 
 use rt_base::{Prio, ThreadNo};
 use std::alloc::{AllocError, Global};
@@ -71,4 +72,26 @@ impl Changes {
     {
         self.changes.push_reserved(change);
     }
+
+    // One more at its place by thread.
+    pub(crate) fn put(&mut self, change: Change)
+        requires { length self.old.changes < self.old.threads }
+        ensures { self.new ≡ record self.old { changes = put_change (Some change) self.old.changes } }
+    {
+        let place = place_among(change.thread, self.changes.as_slice());
+        let _ = self.changes.insert(place, change);
+    }
+}
+
+// Where the change of a thread belongs in a list in thread order.
+fn place_among(thread: ThreadNo, changes: &[Change]) -> usize
+    ensures { result ≡ place_among thread changes.now }
+{
+    for i in 0..changes.len() {
+        let change = &changes[i];
+        if change.thread.0 >= thread.0 {
+            return i;
+        }
+    }
+    changes.len()
 }

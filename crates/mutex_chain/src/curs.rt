@@ -105,7 +105,7 @@ fn list_changes(owners: &Owners, olds: &[u16], news: &[u16], out: &mut Changes)
 }
 
 // The change of a thread that is there, where its two numbers differ.
-fn change_of(owners: &Owners, thread: ThreadNo, old: u16, new: u16) -> Option<Change>
+pub fn change_of(owners: &Owners, thread: ThreadNo, old: u16, new: u16) -> Option<Change>
     requires { thread < length owners.now.members }
     ensures { result ≡ changed_at owners.now thread old new }
 {

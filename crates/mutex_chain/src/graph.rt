@@ -10,6 +10,7 @@ use crate::curs::{compute, count_waiters, first_waiter, number, renew, settle};
 use crate::ends::{give_back, leave_all, list_waiters};
 use crate::owners::Owners;
 use crate::passes::Passes;
+use crate::raising::strengthen;
 use crate::rows::{MemberRow, WaitRow};
 use crate::woken::Woken;
 use rt_base::{ObjNo, Prio, Steps, ThreadNo};
@@ -101,8 +102,15 @@ impl MutexGraph {
         ensures changes { out.new ≡ record out.old { changes = changes self.old self.new } }
     {
         steps.tick();
+        let old = self.owners.base_of(thread);
+        let number = base.0 as u16;
         self.owners.set_base(thread, base);
-        renew(&self.owners, &mut self.curs, &mut self.before, out);
+        if number > old {
+            renew(&self.owners, &mut self.curs, &mut self.before, out);
+            return;
+        }
+        self.owners.know_sound();
+        strengthen(&self.owners, &mut self.curs, Some(thread), number, out);
     }
 
     /// Gives a mutex another ceiling. The answer is the old one.
@@ -124,7 +132,13 @@ impl MutexGraph {
         steps.tick();
         let old = self.ceiling(mutex);
         self.owners.set_ceiling(mutex, Some(ceiling));
-        renew(&self.owners, &mut self.curs, &mut self.before, out);
+        if ceiling.0 > old.0 {
+            renew(&self.owners, &mut self.curs, &mut self.before, out);
+            return old;
+        }
+        self.owners.know_sound();
+        let owner = self.owners.holder(mutex);
+        strengthen(&self.owners, &mut self.curs, owner, ceiling.0 as u16, out);
         old
     }
 
@@ -173,8 +187,11 @@ impl MutexGraph {
         ensures changes { out.new ≡ record out.old { changes = changes self.old self.new } }
     {
         steps.tick();
+        let number = self.curs[thread.0 as usize];
         self.owners.set_wait(thread, Some(WaitRow { mutex, at }));
-        renew(&self.owners, &mut self.curs, &mut self.before, out);
+        self.owners.know_sound();
+        let owner = self.owners.holder(mutex);
+        strengthen(&self.owners, &mut self.curs, owner, number, out);
     }
 
     /// A thread that waits on a mutex waits no more.
@@ -267,6 +284,22 @@ impl MutexGraph {
         settle(&self.owners, &mut self.curs, &self.before, out);
     }
 
+    /// Whether a thread is there.
+    pub fn has_thread(&self, thread: ThreadNo) -> bool
+        requires { thread < length self.now.members }
+        ensures { result ≡ has_thread self.now thread }
+    {
+        self.owners.has(thread)
+    }
+
+    /// Whether a mutex is there.
+    pub fn has_mutex(&self, mutex: ObjNo) -> bool
+        requires { mutex < length self.now.ceilings }
+        ensures { result ≡ has_mutex self.now mutex }
+    {
+        self.owners.ceiling(mutex).is_some()
+    }
+
     /// The current priority of a thread.
     pub fn cur(&self, thread: ThreadNo) -> Prio
         requires { IsTrue (has_thread self.now thread) }
@@ -330,24 +363,5 @@ impl MutexGraph {
         ensures { result ≡ length (waiters_in self.now mutex) }
     {
         count_waiters(&self.owners, mutex)
-    }
-}
-
-#[cfg(test)]
-impl MutexGraph {
-    // Whether a thread is there.
-    pub fn has_thread(&self, thread: ThreadNo) -> bool
-        requires { thread < length self.now.members }
-        ensures { result ≡ has_thread self.now thread }
-    {
-        self.owners.has(thread)
-    }
-
-    // Whether a mutex is there.
-    pub fn has_mutex(&self, mutex: ObjNo) -> bool
-        requires { mutex < length self.now.ceilings }
-        ensures { result ≡ has_mutex self.now mutex }
-    {
-        self.owners.ceiling(mutex).is_some()
     }
 }

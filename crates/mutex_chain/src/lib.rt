@@ -9,11 +9,8 @@ mod graph;
 pub mod laws;
 mod owners;
 mod passes;
-#[cfg(test)]
-mod plain;
+mod raising;
 mod rows;
-#[cfg(test)]
-mod tests;
 mod waiter;
 mod woken;
 

@@ -1,7 +1,7 @@
 ghost use Rattle.std.specs.Prelude.{ℕ, ◌≡◌, ◌<◌, ◌≤◌, [], None, Some, length, map, not, ◌==◌, filter, if◌then◌else◌, replicate, slice_set, vec_capacity, IfOk, IfSome, IsTrue};
 ghost use Rattle.std.specs.List.{find};
 ghost use Rattle.std.specs.Option.{is_some, option_map};
-ghost use Rattle.rt_plain.specs.Ownership.{member_at, taken_of, member_urgency, owned_in, owner_in, with_member, base_edit, member_edit, with_wait, with_mutex_free, with_mutex_got, with_taken_times, wait_of, take_edit, pass_edit_to, first_in, release_edit};
+ghost use Rattle.rt_plain.specs.Ownership.{base_of, member_at, taken_of, member_urgency, owned_in, owner_in, with_member, base_edit, member_edit, with_wait, with_mutex_free, with_mutex_got, with_taken_times, wait_of, take_edit, pass_edit_to, first_in, release_edit};
 ghost use Rattle.rt_plain.specs.Waiting.{head_of};
 ghost use Rattle.mutex_chain.specs.Graph.{took_of, released_of, row_in, waiter_with};
 ghost use Rattle.mutex_chain.specs.Owners.{IsSound, has_thread, has_mutex, ceiling_at, blocker_in, with_hold};
@@ -62,12 +62,30 @@ impl Owners {
         self.members.len() as u16
     }
 
+    // What the tables keep.
+    pub fn know_sound(&self)
+        ensures { IsSound self.now }
+    {
+        let _ = &self.members;
+    }
+
     // The row of a thread, if it is there.
     pub fn member(&self, thread: ThreadNo) -> Option<MemberRow>
         requires { thread < length self.now.members }
         ensures { result ≡ member_at self.now thread }
     {
         self.members[thread.0 as usize]
+    }
+
+    // The base of a thread. One that isn't there has 256.
+    pub fn base_of(&self, thread: ThreadNo) -> u16
+        requires { thread < length self.now.members }
+        ensures { result ≡ base_of (member_at self.now thread) }
+    {
+        match self.member(thread) {
+            None => 256,
+            Some(row) => row.base.0 as u16,
+        }
     }
 
     // Whether a thread is there.
@@ -121,10 +139,7 @@ impl Owners {
         requires { thread < length self.now.members }
         ensures { result ≡ member_urgency self.now thread }
     {
-        let mut least = match self.member(thread) {
-            None => 256,
-            Some(row) => row.base.0 as u16,
-        };
+        let mut least = self.base_of(thread);
         for row in &self.taken {
             if row.owner.0 == thread.0
                 && let Some(ceiling) = self.ceilings[row.mutex.0 as usize]

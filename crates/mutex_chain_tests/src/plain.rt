@@ -1,6 +1,6 @@
 ghost use Rattle.std.specs.Prelude.{◌<◌};
 
-use crate::{Change, Released, Took};
+use mutex_chain::{Change, Released, Took};
 use rt_base::{ObjNo, Prio, ThreadNo};
 use std::alloc::{AllocError, Global};
 

@@ -1,6 +1,6 @@
 use Rattle.std.proofs.Common.{ap, ◌∙◌}
 use Rattle.mutex_chain.specs.Graph.{ChangeList}
-use Rattle.mutex_chain.proofs.tests.Bench.wait.Goals as goal
+use Rattle.mutex_chain_tests.proofs.bench.Bench.wait.Goals as goal
 
 pub invariant_of-self : goal.invariant_of-self
 invariant_of-self g c = record {
