@@ -5,8 +5,6 @@ mod bits;
 mod freed;
 pub mod laws;
 mod pool;
-#[cfg(test)]
-mod tests;
 
 pub use freed::Freed;
 pub use pool::MemPool;

@@ -8,8 +8,14 @@ mod devices;
 #[cfg(test)]
 mod objects;
 #[cfg(test)]
+mod pools;
+#[cfg(test)]
+mod power;
+#[cfg(test)]
 mod queues;
 #[cfg(test)]
 mod ready;
 #[cfg(test)]
 mod wait_lists;
+#[cfg(test)]
+mod works;

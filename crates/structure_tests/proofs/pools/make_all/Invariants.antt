@@ -1,5 +1,5 @@
 use Rattle.std.proofs.Common.{◌≡◌, length}
-use Rattle.mem_pool.proofs.tests.seeded_calls_agree_with_plain_lists.Given as goal
+use Rattle.structure_tests.proofs.pools.make_all.Given as goal
 
 abbrev pub invariant-loop-at : goal.invariant-loop-at
 invariant-loop-at g l = length l.pool.waiters.rows ≡ 4

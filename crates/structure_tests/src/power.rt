@@ -1,4 +1,4 @@
-use crate::{LpClock, Votes, length, rounds};
+use pm_core::{LpClock, Votes, length, rounds};
 use rand_core::SeedableRng;
 use rand_core::utils::NextWord;
 use rand_pcg::Pcg32;
