@@ -1,3 +1,2 @@
 pub mod HeaderLemmas
 pub mod CutLemmas
-pub mod CodeLemmas
