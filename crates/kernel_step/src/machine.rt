@@ -109,6 +109,15 @@ impl Machine {
         if !is_built(&board) {
             return Err(StartFault::Later);
         }
+        Ok(Machine::opened(alloc, board)?)
+    }
+
+    // A machine at the opening of a board that is built.
+    fn opened(alloc: Global, board: Board) -> Result<Machine, AllocError>
+        requires { is_built board ≡ true }
+        ensures board { IfOk result (λ m. m.board ≡ board) }
+        ensures course { IfOk result (λ m. m.course ≡ opened board) }
+    {
         facts(&board);
         let lines = Lines::new(alloc, room_for(&board))?;
         let engine = Engine::open(alloc, board)?;

@@ -1,4 +1,4 @@
-ghost use Rattle.std.specs.Prelude.{◌≡◌, ◌↔◌, ◌<◌, ◌≤◌, IfOk, IfErr, IsErrOf, IsSome, true, false, length};
+ghost use Rattle.std.specs.Prelude.{⊥, ◌≡◌, ◌↔◌, ◌<◌, ◌≤◌, IfOk, IfErr, IsErrOf, IsSome, true, false, length};
 ghost use Rattle.rt_plain.specs.declared.board.Schedule.TheVariants.{Round};
 ghost use Rattle.rt_plain.specs.Runs.{is_over, opened};
 ghost use Rattle.rt_plain.specs.Schedules.{scheduled_course, moved, is_stopped};
@@ -74,6 +74,38 @@ fn drive<L: Ledger>(machine: Machine, steps: &mut Steps<L>) -> Result<Machine, A
     Ok(machine)
 }
 
+// The machine at the opening of a board.
+fn open(alloc: Global, board: Board) -> Result<Machine, RunFault>
+    ensures board { IfOk result (λ m. m.board ≡ board) }
+    ensures course { IfOk result (λ m. m.course ≡ opened board) }
+    ensures built { IfOk result (λ m. is_built board ≡ true) }
+    ensures later { IsErrOf result RunFault.Later ↔ (is_built board ≡ false) }
+    ensures limit { IfErr result (MeetsLimit board) }
+{
+    match Machine::open(alloc, board) {
+        Ok(machine) => Ok(machine),
+        Err(StartFault::Later) => Err(RunFault::Later),
+        Err(StartFault::Memory) => Err(RunFault::Memory),
+    }
+}
+
+// The limit that a machine met, whose run has stopped: where it met none, the run is complete.
+fn limit_met(machine: &Machine) -> Result<(), RunFault>
+    requires run { machine.now.course ≡ run_of machine.now.board }
+    requires stopped { is_stopped (is_over machine.now.board) machine.now.course ≡ true }
+    ensures halted { IfOk result (λ _. IsSome machine.now.course.halt) }
+    ensures complete { IfOk result (λ _. HasCompleted machine.now.board machine.now.course) }
+    ensures limit { IfErr result (MeetsLimit machine.now.board) }
+    ensures known { IsErrOf result RunFault.Later → ⊥ }
+{
+    machine.facts();
+    scheduled_runs_are_complete();
+    match machine.limit() {
+        Some((entries, lines)) => Err(RunFault::Limit { entries, lines }),
+        None => Ok(()),
+    }
+}
+
 // The run by the board's schedule, counted.
 fn run_counted<L: Ledger>(
     alloc: Global,
@@ -88,18 +120,9 @@ fn run_counted<L: Ledger>(
     ensures later { IsErrOf result RunFault.Later ↔ (is_built board ≡ false) }
     ensures limit { IfErr result (MeetsLimit board) }
 {
-    let opened = match Machine::open(alloc, board) {
-        Ok(machine) => machine,
-        Err(StartFault::Later) => return Err(RunFault::Later),
-        Err(StartFault::Memory) => return Err(RunFault::Memory),
-    };
-    let machine = drive(opened, steps)?;
-    machine.facts();
-    scheduled_runs_are_complete();
-    match machine.limit() {
-        Some((entries, lines)) => Err(RunFault::Limit { entries, lines }),
-        None => Ok(machine),
-    }
+    let machine = drive(open(alloc, board)?, steps)?;
+    limit_met(&machine)?;
+    Ok(machine)
 }
 
 // The same with a counter of its own.

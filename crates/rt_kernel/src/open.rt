@@ -1,11 +1,11 @@
-ghost use Rattle.std.specs.Prelude.{◌≡◌, not, true, [], reverse, length, map, filter, None, IfOk};
+ghost use Rattle.std.specs.Prelude.{◌≡◌, not, true, [], reverse, length, map, filter, None, IfOk, if◌then◌else◌};
 ghost use Rattle.std.specs.List.{list_all, range_with_len};
-ghost use Rattle.rt_plain.specs.State.{is_initial};
+ghost use Rattle.rt_plain.specs.State.{Active, Initial, is_initial};
 ghost use Rattle.rt_plain.specs.Opening.{new_script_thread, new_sem, new_event, open_state};
 ghost use Rattle.rt_kernel.specs.Built.{IsBuilt, is_built_thread};
 ghost use Rattle.rt_kernel.specs.Limits.{limits_of, board_limits};
-ghost use Rattle.rt_kernel.specs.Opened.{AreFreeSems, AreFreeEvents, AreEmpty, MayCreateSems, MayCreateEvents, first_tables};
-ghost use Rattle.rt_kernel.specs.Threads.{plain_thread, row_at};
+ghost use Rattle.rt_kernel.specs.Opened.{empty_waits, AreFreeSems, AreFreeEvents, AreEmpty, MayCreateSems, MayCreateEvents, first_tables};
+ghost use Rattle.rt_kernel.specs.Threads.{plain_thread, row_at, stage_of};
 ghost use Rattle.rt_kernel.specs.View.{state_of};
 
 use crate::armed::ArmedRows;
@@ -22,6 +22,17 @@ use rt_base::{Class, Code, ThreadNo, WaitOrder};
 use rt_plain::{Board, EventDef, SemDef, ThreadDef};
 use std::alloc::{AllocError, Global};
 
+// Where a thread stands before its first statement.
+fn first_place(is_started: bool) -> Place
+    ensures { stage_of result ≡ (if is_started then Active else Initial) }
+{
+    if is_started {
+        Place::Active
+    } else {
+        Place::Initial
+    }
+}
+
 // A thread of the board before its first statement.
 fn row_of(def: &ThreadDef) -> Row
     requires { def.now.core ≡ None }
@@ -32,11 +43,7 @@ fn row_of(def: &ThreadDef) -> Row
         base: def.prio,
         slice: def.slice,
         left: def.slice,
-        place: if def.started {
-            Place::Active
-        } else {
-            Place::Initial
-        },
+        place: first_place(def.started),
         next: 1,
         code: Code::Ok,
         value: 0,
@@ -71,13 +78,20 @@ fn start(threads: &Rows, ready: &mut Queue)
     }
 }
 
+// A semaphore that nobody waits for, with room for the threads below a number.
+fn free_sem(alloc: Global, threads: u16) -> Result<Sem, AllocError>
+    ensures { IfOk result (λ sem. sem.waiters ≡ empty_waits threads) }
+{
+    Sem::new(alloc, 0, WaitOrder::Fifo, threads)
+}
+
 // So many semaphores that nobody waits for, with room for the threads below a number.
 fn free_sems(alloc: Global, count: u16, threads: u16) -> Result<Vec<Sem>, AllocError>
     ensures { IfOk result (λ sems. AreFreeSems sems.items count threads) }
 {
     let mut sems = Vec::with_capacity(alloc, count as usize)?;
     for _ in 0..count {
-        sems.push_reserved(Sem::new(alloc, 0, WaitOrder::Fifo, threads)?);
+        sems.push_reserved(free_sem(alloc, threads)?);
     }
     Ok(sems)
 }
@@ -108,13 +122,15 @@ impl Lists {
             timer: 0,
             device: 0,
         };
+        let sems = free_sems(alloc, sems, threads)?;
+        let events = free_events(alloc, events, threads)?;
         let objects = Objects::new(alloc, limits)?;
         let _ = objects.count(Class::Sem);
         let _ = objects.count(Class::Event);
         Ok(Lists {
             objects,
-            sems: free_sems(alloc, sems, threads)?,
-            events: free_events(alloc, events, threads)?,
+            sems,
+            events,
         })
     }
 }
@@ -162,8 +178,11 @@ impl Records {
         ensures state { IfOk result (λ k. state_of k ≡ open_state board.now) }
         ensures limits { IfOk result (λ k. limits_of k.tables ≡ board_limits board.now) }
     {
-        let tables = Tables::open(alloc, board)?;
         let mut ready = Queue::new(alloc)?;
+        let armed = ArmedRows::new(alloc)?;
+        let waited = Queue::new(alloc)?;
+        let woken = WokenThreads::new(alloc)?;
+        let tables = Tables::open(alloc, board)?;
         start(tables.rows(), &mut ready);
         Ok(Records {
             tick: 0,
@@ -171,9 +190,9 @@ impl Records {
             tables,
             ready,
             running: None,
-            armed: ArmedRows::new(alloc)?,
-            waited: Queue::new(alloc)?,
-            woken: WokenThreads::new(alloc)?,
+            armed,
+            waited,
+            woken,
         })
     }
 }

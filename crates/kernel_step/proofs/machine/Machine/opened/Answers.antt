@@ -1,7 +1,7 @@
 use Rattle.std.proofs.Common.{◌∙◌}
 use Rattle.rt_plain.proofs.CompleteLemmas.{open-live}
 use Rattle.rt_plain.proofs.ReachedLemmas.{opened-reached}
-use Rattle.kernel_step.proofs.machine.Machine.open.Goals as goal
+use Rattle.kernel_step.proofs.machine.Machine.opened.Goals as goal
 
 pub invariant_of-result : goal.invariant_of-result
 invariant_of-result c = record {
