@@ -11,6 +11,6 @@ returns c = record {
   event_limit = ap (λ (o : ClassObjects). o.limit) (c.in_ok-objects.ensures Class.Event);
   sems_sound = c.count.ensures.sound;
   events_sound = c.count-2.ensures.sound;
-  free_sems = c.in_ok-free_sems.ensures;
-  free_events = c.in_ok-free_events.ensures;
+  free_sems = c.in_ok-sems.ensures;
+  free_events = c.in_ok-events.ensures;
 }

@@ -6,6 +6,6 @@ use Rattle.rt_kernel.proofs.records.Records.open.Goals as goal
 
 pub returns-clause-state : goal.returns-clause-state
 returns-clause-state c =
-    let tables = c.tables.view_is ∙ c.in_ok-tables.ensures in
-    let first : Records = record { tick = 0; numbers = 0; tables = _; ready = c.start.new.ready; running = None; armed = c.in_ok-new.field-0; waited = c.in_ok-new-2.field-0; woken = c.in_ok-new-3.field-0 } in
-    opened c.args.board.now first c.requires refl refl tables (c.start.ensures ∙ ap first_ready (c.rows.ensures ∙ ap (λ (k : Tabled). k.threads) c.in_ok-tables.ensures)) refl c.in_ok-new.ensures
+    let tables = c.in_ok-tables.ensures in
+    let first : Records = record { tick = 0; numbers = 0; tables = c.in_ok-tables.tables; ready = c.start.new.ready; running = None; armed = c.in_ok-armed.armed; waited = c.in_ok-waited.waited; woken = c.in_ok-woken.woken } in
+    opened c.args.board.now first c.requires refl refl tables (c.start.ensures ∙ ap first_ready (c.rows.ensures ∙ ap (λ (k : Tabled). k.threads) c.in_ok-tables.ensures)) refl c.in_ok-armed.ensures
