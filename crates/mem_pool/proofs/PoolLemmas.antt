@@ -1,10 +1,10 @@
 -- What is kept of a pool's fields, as blocks are given and freed.
-use Rattle.std.proofs.Common.{ℕ, ◌≡◌, ◌+◌, ◌*◌, ◌<◌, ◌≤◌, zero, suc, Bool, true, false, cond, not, eqb, List, [], ◌∷◌, ◌++◌, length, filter, replicate, Option, Some, None, count_by, slice_get, get_or, set, sym, refl, ap, ◌∙◌, subst, inl, inr, arith, length-set, get_or-set_same, get_or-set_other}
+use Rattle.std.proofs.Common.{ℕ, ◌≡◌, ◌+◌, ◌*◌, ◌<◌, ◌≤◌, zero, suc, Bool, true, false, cond, not, eqb, List, [], ◌∷◌, ◌++◌, length, replicate, Option, Some, None, count_by, slice_get, get_or, set, sym, refl, ap, ◌∙◌, subst, inl, inr, arith, length-set, get_or-set_same, get_or-set_other}
 use Rattle.std.specs.Prelude.{◌≢◌, nat_lt, reverse}
 use Rattle.std.specs.Int.{bit_at}
 use Rattle.std.specs.List.{find, range_with_len}
 use Rattle.std.specs.Option.{option_map}
-use Rattle.std.proofs.lemmas.List.{length-replicate, get_or-replicate, length_push, get_or_past}
+use Rattle.std.proofs.lemmas.List.{length-replicate, length_push, get_or_past}
 use Rattle.std.proofs.lemmas.List.Sums.{sum_by-cons, sum_by_push, sum_by-set}
 use Rattle.std.proofs.lemmas.List.Folds.{sum_by-replicate}
 use Rattle.std.proofs.lemmas.Nat.{mul-le}
@@ -12,9 +12,9 @@ use Rattle.std.proofs.lemmas.Option.{slice_get_within, slice_get-get_or, get_or_
 use Rattle.std.proofs.lemmas.Bool.{false≢true, eqb-true, eq-eqb, ne_eqb, cond-true, cond-false, cases_eq, cases_lt, cases_Bool, lt-ltb, le-ltb}
 use Rattle.rt_plain.specs.Waiting.{first_of}
 use Rattle.susp_list.specs.Rows.{Waits, waiters}
-use Rattle.mem_pool.specs.Bits.{IsLeast, IsLowest}
+use Rattle.mem_pool.specs.Bits.{IsLeast}
 use Rattle.mem_pool.specs.Frees.{IsBack, IsPassed, without}
-use Rattle.mem_pool.specs.Pools.{PoolBlocks, IsKept, IsSound, after_alloc, free_bit, free_block, holder_of, holds_block, is_free, last_block, others, place_of, times_held, with_block_freed, with_block_held}
+use Rattle.mem_pool.specs.Pools.{PoolBlocks, IsKept, after_alloc, free_bit, free_block, holder_of, holds_block, is_free, last_block, others, place_of, times_held}
 
 -- ---- what a search finds
 
@@ -173,67 +173,73 @@ mapped_so blocks word word' b now below were here elsewhere k small =
     ]
 
 -- there is room for one more held block, where one is free or was held till now
-pub room_left : (size : ℕ) (blocks : List (Option ℕ)) (word : ℕ) (held : List ℕ) (room b : ℕ) → IsKept size blocks word held room → slice_get blocks b ≡ Some None → length held < room
-room_left size blocks word held room b h is_none =
+pub room_left : (blocks : List (Option ℕ)) (word : ℕ) (held : List ℕ) (room b : ℕ) → IsKept blocks word held room → slice_get blocks b ≡ Some None → length held < room
+room_left blocks word held room b h is_none =
     let below = slice_get_within blocks b None is_none in
     let was : get_or blocks b None ≡ None = get_or_from_slice_get blocks b None None is_none in
-    omega (arith, h.all_told, h.roomy, free_counts blocks b (Some 0) below, ap free_one was)
+    omega (arith, h.sound.all_told, h.roomy, free_counts blocks b (Some 0) below, ap free_one was)
 
-pub room_again : (size : ℕ) (blocks : List (Option ℕ)) (word : ℕ) (held : List ℕ) (room b t : ℕ) → IsKept size blocks word held room → get_or blocks b None ≡ Some t
+pub room_again : (blocks : List (Option ℕ)) (word : ℕ) (held : List ℕ) (room b t : ℕ) → IsKept blocks word held room → get_or blocks b None ≡ Some t
     → length (others b held) < room
-room_again size blocks word held room b t h was =
-    let one_held : count_by (λ other. eqb other b) held ≡ 1 = h.listed b ∙ ap times_held was in
-    omega (arith, length_others b held, one_held, h.all_told, h.roomy)
+room_again blocks word held room b t h was =
+    let one_held : count_by (λ other. eqb other b) held ≡ 1 = h.sound.listed b ∙ ap times_held was in
+    omega (arith, length_others b held, one_held, h.sound.all_told, h.roomy)
 
 -- a thread holds a block that was free
-pub kept_alloc : (size : ℕ) (blocks : List (Option ℕ)) (word word' : ℕ) (held : List ℕ) (room room' b t : ℕ) → IsKept size blocks word held room
+pub kept_alloc : (blocks : List (Option ℕ)) (word word' : ℕ) (held : List ℕ) (room room' b t : ℕ) → IsKept blocks word held room
     → slice_get blocks b ≡ Some None → room' ≡ room → bit_at word' b ≡ 0 → ((k : ℕ) → k < 64 → k ≢ b → bit_at word' k ≡ bit_at word k)
-    → IsKept size (set blocks b (Some t)) word' (held ++ b ∷ []) room'
-kept_alloc size blocks word word' held room room' b t h is_none er here elsewhere =
+    → IsKept (set blocks b (Some t)) word' (held ++ b ∷ []) room'
+kept_alloc blocks word word' held room room' b t h is_none er here elsewhere =
     let below = slice_get_within blocks b None is_none in
     let was : get_or blocks b None ≡ None = get_or_from_slice_get blocks b None None is_none in
-    let none_held : count_by (λ other. eqb other b) held ≡ 0 = h.listed b ∙ ap times_held was in
+    let none_held : count_by (λ other. eqb other b) held ≡ 0 = h.sound.listed b ∙ ap times_held was in
     record {
       few = omega (arith, length-set blocks b (Some t), h.few);
       roomy = omega (arith, length-set blocks b (Some t), h.roomy, er);
       mapped = mapped_so blocks word word' b (Some t) below h.mapped here elsewhere;
-      listed = listed_so blocks held (held ++ b ∷ []) b (Some t) below h.listed
-          (omega (arith, count_push b b held, none_held, one_if (eqb b b) (eq-eqb b b refl)))
-          (λ k apart. omega (arith, count_push k b held, none_if (eqb b k) (ne_eqb b k (λ e. apart (sym e)))));
-      all_told = omega (arith, length_push held b, length-set blocks b (Some t), h.all_told, free_counts blocks b (Some t) below, ap free_one was);
+      sound = record {
+        listed = listed_so blocks held (held ++ b ∷ []) b (Some t) below h.sound.listed
+            (omega (arith, count_push b b held, none_held, one_if (eqb b b) (eq-eqb b b refl)))
+            (λ k apart. omega (arith, count_push k b held, none_if (eqb b k) (ne_eqb b k (λ e. apart (sym e)))));
+        all_told = omega (arith, length_push held b, length-set blocks b (Some t), h.sound.all_told, free_counts blocks b (Some t) below, ap free_one was);
+      };
     }
 
 -- a held block is free
-pub kept_back : (size : ℕ) (blocks : List (Option ℕ)) (word word' : ℕ) (held : List ℕ) (room room' b t : ℕ) → IsKept size blocks word held room
+pub kept_back : (blocks : List (Option ℕ)) (word word' : ℕ) (held : List ℕ) (room room' b t : ℕ) → IsKept blocks word held room
     → get_or blocks b None ≡ Some t → room' ≡ room → bit_at word' b ≡ 1 → ((k : ℕ) → k ≢ b → bit_at word' k ≡ bit_at word k)
-    → IsKept size (set blocks b None) word' (others b held) room'
-kept_back size blocks word word' held room room' b t h was er here elsewhere =
+    → IsKept (set blocks b None) word' (others b held) room'
+kept_back blocks word word' held room room' b t h was er here elsewhere =
     let below = there blocks b t was in
-    let one_held : count_by (λ other. eqb other b) held ≡ 1 = h.listed b ∙ ap times_held was in
+    let one_held : count_by (λ other. eqb other b) held ≡ 1 = h.sound.listed b ∙ ap times_held was in
     record {
       few = omega (arith, length-set blocks b None, h.few);
       roomy = omega (arith, length-set blocks b None, h.roomy, er);
       mapped = mapped_so blocks word word' b None below h.mapped here (λ k _ apart. elsewhere k apart);
-      listed = listed_so blocks held (others b held) b None below h.listed (count_out b held) (λ k apart. count_other b k held apart);
-      all_told = omega (arith, length_others b held, one_held, length-set blocks b None, h.all_told, free_counts blocks b None below, ap free_one was);
+      sound = record {
+        listed = listed_so blocks held (others b held) b None below h.sound.listed (count_out b held) (λ k apart. count_other b k held apart);
+        all_told = omega (arith, length_others b held, one_held, length-set blocks b None, h.sound.all_told, free_counts blocks b None below, ap free_one was);
+      };
     }
 
 -- a held block has another holder
-pub kept_passed : (size : ℕ) (blocks : List (Option ℕ)) (word : ℕ) (held : List ℕ) (room room' b t u : ℕ) → IsKept size blocks word held room
+pub kept_passed : (blocks : List (Option ℕ)) (word : ℕ) (held : List ℕ) (room room' b t u : ℕ) → IsKept blocks word held room
     → get_or blocks b None ≡ Some t → room' ≡ room
-    → IsKept size (set blocks b (Some u)) word (others b held ++ b ∷ []) room'
-kept_passed size blocks word held room room' b t u h was er =
+    → IsKept (set blocks b (Some u)) word (others b held ++ b ∷ []) room'
+kept_passed blocks word held room room' b t u h was er =
     let below = there blocks b t was in
-    let one_held : count_by (λ other. eqb other b) held ≡ 1 = h.listed b ∙ ap times_held was in
+    let one_held : count_by (λ other. eqb other b) held ≡ 1 = h.sound.listed b ∙ ap times_held was in
     let was_there : slice_get blocks b ≡ Some (Some t) = slice_get-get_or blocks b None below ∙ ap Some was in
     record {
       few = omega (arith, length-set blocks b (Some u), h.few);
       roomy = omega (arith, length-set blocks b (Some u), h.roomy, er);
       mapped = mapped_so blocks word word b (Some u) below h.mapped (h.mapped b (omega (arith, below, h.few)) ∙ ap free_bit was_there) (λ k _ _. refl);
-      listed = listed_so blocks held (others b held ++ b ∷ []) b (Some u) below h.listed
-          (omega (arith, count_push b b (others b held), count_out b held, one_if (eqb b b) (eq-eqb b b refl)))
-          (λ k apart. omega (arith, count_push k b (others b held), count_other b k held apart, none_if (eqb b k) (ne_eqb b k (λ e. apart (sym e)))));
-      all_told = omega (arith, length_push (others b held) b, length_others b held, one_held, length-set blocks b (Some u), h.all_told, free_counts blocks b (Some u) below, ap free_one was);
+      sound = record {
+        listed = listed_so blocks held (others b held ++ b ∷ []) b (Some u) below h.sound.listed
+            (omega (arith, count_push b b (others b held), count_out b held, one_if (eqb b b) (eq-eqb b b refl)))
+            (λ k apart. omega (arith, count_push k b (others b held), count_other b k held apart, none_if (eqb b k) (ne_eqb b k (λ e. apart (sym e)))));
+        all_told = omega (arith, length_push (others b held) b, length_others b held, one_held, length-set blocks b (Some u), h.sound.all_told, free_counts blocks b (Some u) below, ap free_one was);
+      };
     }
 
 -- ---- as the code uses it
@@ -247,8 +253,8 @@ pub record IsFreeBlock (blocks : List (Option ℕ)) (b : ℕ) : Type 0 where
   pub below : b < length blocks
   pub first : find (λ block. is_free (get_or blocks block None)) (range_with_len 0 (length blocks)) ≡ Some b
 
-pub lowest_is_free : (size : ℕ) (blocks : List (Option ℕ)) (word : ℕ) (held : List ℕ) (room b : ℕ) → IsKept size blocks word held room → IsLeast word b → IsFreeBlock blocks b
-lowest_is_free size blocks word held room b h least =
+pub lowest_is_free : (blocks : List (Option ℕ)) (word : ℕ) (held : List ℕ) (room b : ℕ) → IsKept blocks word held room → IsLeast word b → IsFreeBlock blocks b
+lowest_is_free blocks word held room b h least =
     let is_none : slice_get blocks b ≡ Some None = is_one_free (slice_get blocks b) (sym (h.mapped b least.within) ∙ least.here) in
     let below = slice_get_within blocks b None is_none in
     record {
@@ -262,9 +268,9 @@ lowest_is_free size blocks word held room b h least =
           (ap free_bit (sym (slice_get-get_or blocks j None inside)) ∙ sym (h.mapped j (omega (arith, less, least.within))) ∙ least.lower j less));
     }
 
-pub nothing_free : (size : ℕ) (blocks : List (Option ℕ)) (word : ℕ) (held : List ℕ) (room : ℕ) → IsKept size blocks word held room → ((k : ℕ) → bit_at word k ≡ 0)
+pub nothing_free : (blocks : List (Option ℕ)) (word : ℕ) (held : List ℕ) (room : ℕ) → IsKept blocks word held room → ((k : ℕ) → bit_at word k ≡ 0)
     → find (λ block. is_free (get_or blocks block None)) (range_with_len 0 (length blocks)) ≡ None
-nothing_free size blocks word held room h zeros =
+nothing_free blocks word held room h zeros =
     find_nothing (λ block. is_free (get_or blocks block None)) (length blocks) 0
     (λ j below.
     let inside : j < length blocks = omega (arith, below) in
@@ -276,21 +282,21 @@ pub record IsGiven (v : PoolBlocks) (t place : ℕ) (new : PoolBlocks) : Type 0 
   pub place_is : Some place ≡ option_map (place_of v) (free_block v)
   pub state_is : new ≡ after_alloc v (free_block v) t
 
-pub given : (size : ℕ) (blocks : List (Option ℕ)) (word : ℕ) (held : List ℕ) (room b t place : ℕ) (ws : Waits) (v : PoolBlocks) → IsKept size blocks word held room → IsLeast word b
+pub given : (size : ℕ) (blocks : List (Option ℕ)) (word : ℕ) (held : List ℕ) (room b t place : ℕ) (ws : Waits) (v : PoolBlocks) → IsKept blocks word held room → IsLeast word b
     → seen size blocks held ws ≡ v → place ≡ b * size → IsGiven v t place (seen size (set blocks b (Some t)) (held ++ b ∷ []) ws)
 given size blocks word held room b t place ws v h least e at =
-    let free = lowest_is_free size blocks word held room b h least in
+    let free = lowest_is_free blocks word held room b h least in
     let was : get_or blocks b None ≡ None = get_or_from_slice_get blocks b None None free.is_none in
-    let others_all : others b held ≡ held = others_absent b held (h.listed b ∙ ap times_held was) in
+    let others_all : others b held ≡ held = others_absent b held (h.sound.listed b ∙ ap times_held was) in
     let p = seen size blocks held ws in
     subst (λ w. IsGiven w t place (seen size (set blocks b (Some t)) (held ++ b ∷ []) ws)) e (record {
       place_is = ap Some at ∙ sym (ap (option_map (place_of p)) free.first);
       state_is = ap (λ xs. seen size (set blocks b (Some t)) (xs ++ b ∷ []) ws) (sym others_all) ∙ sym (ap (λ o. after_alloc p o t) free.first);
     })
 
-pub none_given : (size : ℕ) (blocks : List (Option ℕ)) (word : ℕ) (held : List ℕ) (room : ℕ) (ws : Waits) (v : PoolBlocks) → IsKept size blocks word held room
+pub none_given : (size : ℕ) (blocks : List (Option ℕ)) (word : ℕ) (held : List ℕ) (room : ℕ) (ws : Waits) (v : PoolBlocks) → IsKept blocks word held room
     → ((k : ℕ) → bit_at word k ≡ 0) → seen size blocks held ws ≡ v → free_block v ≡ None
-none_given size blocks word held room ws v h zeros e = subst (λ w. free_block w ≡ None) e (nothing_free size blocks word held room h zeros)
+none_given size blocks word held room ws v h zeros e = subst (λ w. free_block w ≡ None) e (nothing_free blocks word held room h zeros)
 
 -- the block that a thread got last is one that it holds
 pub holder_seen : (size : ℕ) (blocks : List (Option ℕ)) (held : List ℕ) (ws : Waits) (v : PoolBlocks) (t b : ℕ) → seen size blocks held ws ≡ v → last_block v t ≡ Some b
@@ -334,14 +340,16 @@ all_free n k =
     ]
 
 -- at first all blocks are free
-pub kept_at_first : (size n : ℕ) (blocks : List (Option ℕ)) (word : ℕ) (held : List ℕ) (room : ℕ) → n ≤ 64 → blocks ≡ replicate n None → held ≡ [] → room ≡ n
-    → ((k : ℕ) → bit_at word k ≡ cond (nat_lt k n) 1 0) → IsKept size blocks word held room
-kept_at_first size n blocks word held room few eb eh er bits =
+pub kept_at_first : (n : ℕ) (blocks : List (Option ℕ)) (word : ℕ) (held : List ℕ) (room : ℕ) → n ≤ 64 → blocks ≡ replicate n None → held ≡ [] → room ≡ n
+    → ((k : ℕ) → bit_at word k ≡ cond (nat_lt k n) 1 0) → IsKept blocks word held room
+kept_at_first n blocks word held room few eb eh er bits =
     let long = length-replicate {A = Option ℕ} n None in
     rw (eb, eh) (record {
       few = omega (arith, long, few);
       roomy = omega (arith, long, er);
       mapped = λ k _. bits k ∙ sym (all_free n k);
-      listed = λ k. sym (ap times_held (none_there n k));
-      all_told = omega (arith, long, sum_by-replicate free_one n None);
+      sound = record {
+        listed = λ k. sym (ap times_held (none_there n k));
+        all_told = omega (arith, long, sum_by-replicate free_one n None);
+      };
     })

@@ -1,5 +1,5 @@
 -- What a memory pool is for contracts: who holds which block, which was got when, and who waits.
-use Rattle.std.specs.Prelude.{ℕ, ◌≡◌, ◌+◌, ◌*◌, ◌<◌, ◌≤◌, ◌==◌, Bool, true, false, not, List, [], ◌∷◌, ◌++◌, Option, Some, None, count_by, filter, length, reverse, is_some, slice_get, slice_set, slice_index_or, if◌then◌else◌}
+use Rattle.std.specs.Prelude.{ℕ, ◌≡◌, ◌+◌, ◌*◌, ◌<◌, ◌≤◌, ◌==◌, Bool, false, not, List, [], ◌∷◌, ◌++◌, Option, Some, None, count_by, filter, length, reverse, is_some, slice_get, slice_set, slice_index_or, if◌then◌else◌}
 use Rattle.std.specs.List.{find, range_with_len}
 use Rattle.std.specs.Int.{bit_at}
 use Rattle.susp_list.specs.Rows.{Waits}
@@ -59,9 +59,9 @@ abbrev pub times_held : Option ℕ → ℕ
 times_held holder = if is_free holder then 0 else 1
 
 -- each held block stands once among the held ones and a free one doesn't, and together they are all
-pub record IsSound (p : PoolBlocks) : Type 0 where
-  pub listed : (block : ℕ) → count_by (λ other. other == block) p.held ≡ times_held (holder_of p block)
-  pub all_told : length p.held + count_by is_free p.blocks ≡ length p.blocks
+pub record IsSound (blocks : List (Option ℕ)) (held : List ℕ) : Type 0 where
+  pub listed : (block : ℕ) → count_by (λ other. other == block) held ≡ times_held (slice_index_or blocks block None)
+  pub all_told : length held + count_by is_free blocks ≡ length blocks
 
 -- 1 where a block is there and free, else 0
 abbrev pub free_bit : Option (Option ℕ) → ℕ
@@ -69,9 +69,8 @@ free_bit (Some None) = 1
 free_bit _ = 0
 
 -- what is kept of the fields of a pool: the bitmap has the free blocks, and there is room for all blocks to be held
-pub record IsKept (size : ℕ) (blocks : List (Option ℕ)) (word : ℕ) (held : List ℕ) (room : ℕ) : Type 0 where
+pub record IsKept (blocks : List (Option ℕ)) (word : ℕ) (held : List ℕ) (room : ℕ) : Type 0 where
   pub few : length blocks ≤ 64
   pub roomy : length blocks ≤ room
   pub mapped : (block : ℕ) → block < 64 → bit_at word block ≡ free_bit (slice_get blocks block)
-  pub listed : (block : ℕ) → count_by (λ other. other == block) held ≡ times_held (slice_index_or blocks block None)
-  pub all_told : length held + count_by is_free blocks ≡ length blocks
+  pub sound : IsSound blocks held

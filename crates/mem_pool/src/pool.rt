@@ -12,7 +12,8 @@ use std::marker::Model;
 use susp_list::SuspList;
 
 /// A memory pool, as RT-Thread's `rt_mempool`: 1 to 64 blocks of one size, and the threads that wait
-/// for one of them. Block `k` has the bytes from `k` times the size up to the next block's first.
+/// for one of them. Block `k` has the bytes from `k` times the size up to the next block's first. That
+/// a pool knows who holds which block is this project's own.
 ///
 /// Contracts see the size, for each block the thread that holds it, the held blocks in the order in
 /// which they were got, and the waiters. In every pool each block is free or has one holder, and the
@@ -35,7 +36,7 @@ impl Model for MemPool {
 
     ghost view = { λ p. record { size = p.size; blocks = p.holders.items; held = p.held.items; waiters = p.waiters } };
 
-    ghost invariant = { λ p. IsKept p.size p.holders.items p.free.word p.held.items (vec_capacity p.held) };
+    ghost invariant = { λ p. IsKept p.holders.items p.free.word p.held.items (vec_capacity p.held) };
 }
 
 // The place of a block: the number of its first byte.
@@ -77,8 +78,8 @@ impl MemPool {
         })
     }
 
-    /// Gives a thread the free block of the least number, and tells the block's place: `None` exactly
-    /// where no block is free.
+    /// Gives a thread the free block of the least number, and tells the block's place, as RT-Thread's
+    /// `rt_mp_alloc` without a wait: `None` exactly where no block is free. It doesn't look at the waiters.
     pub fn try_alloc(&mut self, thread: ThreadNo) -> Option<u32>
         ensures place { result ≡ option_map (place_of self.old) (free_block self.old) }
         ensures state { self.new ≡ after_alloc self.old (free_block self.old) thread }
@@ -91,8 +92,9 @@ impl MemPool {
         Some(place_of(block, self.size))
     }
 
-    /// Takes back the block that a thread got last of those that it holds. A block that the thread was
-    /// passed was got then. `NotHeld` comes exactly where it holds none; else `Passed` exactly where
+    /// Takes back the block that a thread got last of those that it holds, as RT-Thread's `rt_mp_free`
+    /// does with a block that the caller names. A block that was passed to the thread was got then.
+    /// `NotHeld` comes exactly where it holds none; else `Passed` exactly where
     /// somebody waits, with the first waiter, which has left the wait list and holds the block; else the
     /// block is free, and `Back` comes. Both tell the block's place.
     pub fn free(&mut self, thread: ThreadNo) -> Freed
@@ -127,7 +129,7 @@ impl MemPool {
     pub fn free_count(&self) -> u8
         ensures count { result ≡ count_by is_free self.now.blocks }
         // Each held block stands once among the held ones and a free one doesn't, and together they are all.
-        ensures sound { IsSound self.now }
+        ensures sound { IsSound self.now.blocks self.now.held }
     {
         (self.holders.len() - self.held.len()) as u8
     }

@@ -1,11 +1,10 @@
 -- What the links and marks hold, after the works have changed.
-use Rattle.std.proofs.Common.{ℕ, ◌≡◌, ◌+◌, ◌<◌, ◌≤◌, zero, suc, Bool, true, false, cond, List, [], ◌∷◌, ◌++◌, length, slice_index, drop, replicate, Option, Some, None, count_by, slice_get, get_or, set, sym, refl, ap, ◌∙◌, subst, inl, inr, ◌⊎◌, arith, length-set, get_or-set_same, get_or-set_other}
-use Rattle.std.proofs.lemmas.List.{length-replicate, get_or-replicate, length_push, get_or_past, get_or_read}
+use Rattle.std.proofs.Common.{ℕ, ◌≡◌, ◌<◌, Bool, true, false, cond, List, [], ◌∷◌, ◌++◌, length, drop, Some, slice_get, get_or, set, sym, refl, ap, ◌∙◌, subst, inl, inr, ◌⊎◌, arith, length-set, get_or-set_same, get_or-set_other}
+use Rattle.std.proofs.lemmas.List.{length_push, get_or_past, get_or_read}
 use Rattle.std.proofs.lemmas.List.Sums.{count_by-le-length, sum_by-set}
-use Rattle.std.proofs.lemmas.List.Folds.{sum_by-replicate}
 use Rattle.std.proofs.lemmas.Bool.{false≢true, cases_eq, cases_lt}
-use Rattle.soft_work.specs.WorkLists.{WorkList, is_among, without, IsAmong, IsApart, IsSound}
-use Rattle.soft_work.specs.Links.{ring_of, IsChain, IsLinked}
+use Rattle.soft_work.specs.WorkLists.{WorkList, is_among, without, IsAmong, IsSound}
+use Rattle.soft_work.specs.Links.{ring_of, IsLinked}
 use Rattle.soft_work.proofs.Chains.{among_from_true, true_from_among, among_push, among_pushed_old, among_pushed_new, apart_push, without_cons_same, without_absent, among_without, among_kept, apart_without, length_without, walk_is, last_among, prev_among, next_among, IsPutIn, IsTakenOut, chain_pushed, chain_without}
 
 same_test : (a b : Bool) → (a ≡ true → b ≡ true) → (b ≡ true → a ≡ true) → a ≡ b

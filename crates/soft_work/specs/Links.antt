@@ -1,6 +1,6 @@
 -- A ring of links by timer number, with one more number, the root, between the last and the first.
-use Rattle.std.specs.Prelude.{ℕ, ◌≡◌, ◌+◌, ◌<◌, zero, suc, cond, nat_lt, false, Bool, List, [], ◌∷◌, length, count_by, slice_index, slice_index_or}
-use Rattle.soft_work.specs.WorkLists.{IsAmong, IsApart, is_among}
+use Rattle.std.specs.Prelude.{ℕ, ◌≡◌, ◌+◌, zero, suc, cond, nat_lt, false, Bool, List, [], ◌∷◌, length, count_by, slice_index, slice_index_or}
+use Rattle.soft_work.specs.WorkLists.{IsApart, is_among}
 
 -- the numbers from one on, up to the root, which is no timer
 abbrev pub walk : ℕ → ℕ → List ℕ → ℕ → List ℕ

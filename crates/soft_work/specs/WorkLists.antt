@@ -1,6 +1,6 @@
 -- What the works are for contracts: a list of timers by number.
 use Rattle.std.specs.Prelude.{ℕ, ◌<◌, ◌==◌, not, Bool, List, [], ◌∷◌, filter}
-use Rattle.std.specs.List.{All, list_any}
+use Rattle.std.specs.List.{list_any}
 use Rattle.std.proofs.Common.{◌≡◌, ◌⊎◌}
 
 -- the works of timers below a number, the one to be done first at the front

@@ -6,7 +6,8 @@ use std::alloc::{AllocError, Global};
 use std::marker::Model;
 
 /// The works of soft timers: the timers that have fired and whose calls are still to be made, in the
-/// order in which they fired. A timer stands among them once or not at all.
+/// order in which they fired. A timer stands among them once or not at all. As in RT-Thread a thread
+/// makes the calls of soft timers; that they wait for it in a list is this project's own.
 ///
 /// Contracts see the number of timers and the list of works. The timers are linked by number in a
 /// ring, as RT-Thread's lists are, with one more number, the root, between the last and the first. No

@@ -1,7 +1,6 @@
-use Rattle.std.proofs.Common.{arith, rules, ℕ, ◌≡◌, ◌∙◌, sym, not, eqb, ap, length, get_or, Option, Some, None}
-use Rattle.std.specs.Prelude.{filter}
+use Rattle.std.proofs.Common.{arith, rules, ℕ, ◌≡◌, ◌∙◌, sym, not, eqb, ap, length, get_or, Some, None}
 use Rattle.std.proofs.lemmas.Fn.{filter_same}
-use Rattle.mem_pool.specs.Pools.{others, last_block}
+use Rattle.mem_pool.specs.Pools.{others}
 use Rattle.mem_pool.proofs.PoolLemmas.{there, room_again, holder_seen, kept_back, kept_passed, back_seen, passed_seen}
 use Rattle.mem_pool.proofs.pool.MemPool.free.Goals as goal
 
@@ -19,7 +18,7 @@ pub invariant_of-self : goal.invariant_of-self
 invariant_of-self c =
     let was : get_or c.self.inside.holders.items c.in-Some.block None ≡ Some c.args.thread = holder_seen _ _ _ _ _ _ _ c.self.view_is (sym c.last_block.ensures ∙ c.in-Some.is) in
     let left : c.retain.new.self.items ≡ others c.in-Some.block c.self.inside.held.items = filter_same _ (λ (o : ℕ). not (eqb o c.in-Some.block)) _ (λ x b f' k. search rules) _ _ c.retain.ensures.filtered in
-    rw left (kept_back _ _ _ _ _ _ _ _ _ c.self.invariant was c.retain.ensures.capacity c.insert.ensures.here c.insert.ensures.elsewhere)
+    rw left (kept_back _ _ _ _ _ _ _ _ c.self.invariant was c.retain.ensures.capacity c.insert.ensures.here c.insert.ensures.elsewhere)
 
 pub returns-in_default-first-clause-exactly : goal.returns-in_default-first-clause-exactly
 returns-in_default-first-clause-exactly c =
@@ -35,14 +34,14 @@ pub push_reserved-requires : goal.push_reserved-requires
 push_reserved-requires c =
     let was : get_or c.self.inside.holders.items c.in-Some.block None ≡ Some c.args.thread = holder_seen _ _ _ _ _ _ _ c.self.view_is (sym c.last_block.ensures ∙ c.in-Some.is) in
     let left : c.retain.new.self.items ≡ others c.in-Some.block c.self.inside.held.items = filter_same _ (λ (o : ℕ). not (eqb o c.in-Some.block)) _ (λ x b f' k. search rules) _ _ c.retain.ensures.filtered in
-    omega (arith, ap length left, room_again _ _ _ _ _ _ _ c.self.invariant was, c.retain.ensures.capacity)
+    omega (arith, ap length left, room_again _ _ _ _ _ _ c.self.invariant was, c.retain.ensures.capacity)
 
 pub invariant_of-self-2 : goal.invariant_of-self-2
 invariant_of-self-2 c =
     let was : get_or c.self.inside.holders.items c.in-Some.block None ≡ Some c.args.thread = holder_seen _ _ _ _ _ _ _ c.self.view_is (sym c.last_block.ensures ∙ c.in-Some.is) in
     let left : c.retain.new.self.items ≡ others c.in-Some.block c.self.inside.held.items = filter_same _ (λ (o : ℕ). not (eqb o c.in-Some.block)) _ (λ x b f' k. search rules) _ _ c.retain.ensures.filtered in
     rw (c.push_reserved.ensures.items, left)
-    (kept_passed _ _ _ _ _ _ _ _ c.in-Some-first.next c.self.invariant was (c.push_reserved.ensures.capacity ∙ c.retain.ensures.capacity))
+    (kept_passed _ _ _ _ _ _ _ c.in-Some-first.next c.self.invariant was (c.push_reserved.ensures.capacity ∙ c.retain.ensures.capacity))
 
 pub returns-clause-exactly : goal.returns-clause-exactly
 returns-clause-exactly c =

@@ -17,18 +17,18 @@ returns-in_err-block-clause-state c =
 pub index_mut-requires : goal.index_mut-requires
 index_mut-requires c =
     let least : IsLeast c.self.inside.free.word c.in_ok-block.block = rw c.in_ok-block.was at c.lowest.ensures in
-    omega (arith, (lowest_is_free _ _ _ _ _ _ c.self.invariant least).below)
+    omega (arith, (lowest_is_free _ _ _ _ _ c.self.invariant least).below)
 
 pub push_reserved-requires : goal.push_reserved-requires
 push_reserved-requires c =
     let least : IsLeast c.self.inside.free.word c.in_ok-block.block = rw c.in_ok-block.was at c.lowest.ensures in
-    omega (arith, room_left _ _ _ _ _ _ c.self.invariant (lowest_is_free _ _ _ _ _ _ c.self.invariant least).is_none)
+    omega (arith, room_left _ _ _ _ _ c.self.invariant (lowest_is_free _ _ _ _ _ c.self.invariant least).is_none)
 
 pub invariant_of-self : goal.invariant_of-self
 invariant_of-self c =
     let least : IsLeast c.self.inside.free.word c.in_ok-block.block = rw c.in_ok-block.was at c.lowest.ensures in
     rw c.push_reserved.ensures.items
-    (kept_alloc _ _ _ _ _ _ _ _ c.args.thread c.self.invariant (lowest_is_free _ _ _ _ _ _ c.self.invariant least).is_none
+    (kept_alloc _ _ _ _ _ _ _ c.args.thread c.self.invariant (lowest_is_free _ _ _ _ _ c.self.invariant least).is_none
     c.push_reserved.ensures.capacity c.remove.ensures.here c.remove.ensures.elsewhere)
 
 pub returns-clause-place : goal.returns-clause-place
