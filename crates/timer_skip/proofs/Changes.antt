@@ -98,8 +98,8 @@ module _ {L : ℕ} where
   timer_below r timer key h e = elim (cases_lt timer (count r)) as (λ _. timer < count r)
       [ inl less ↦ less | inr more ↦ (let none = none_beyond timer (count r) (entries r) h.in_order.below more in absurd (let no_key : ⊥ = cc in no_key)) ]
 
-  pub is_room : (r : Rows L) (row : ArmedRow) → IsLinked r → row.timer < count r → AllByRecursion (IsAnew row) (line r) → HasRoomFor r.nodes 1
-  is_room r row h below fresh = omega (arith, has_room (count r) row (line r) below fresh h.in_order, h.counted, h.room, length-map (entries r) (λ (e : Entry). e.row))
+  pub is_room : (r : Rows L) (row : ArmedRow) → IsLinked r → row.timer < count r → row.left ≤ 2147483647 → AllByRecursion (IsAnew row) (line r) → HasRoomFor r.nodes 1
+  is_room r row h below near fresh = omega (arith, has_room (count r) row (line r) below near fresh h.in_order, h.counted, h.room, length-map (entries r) (λ (e : Entry). e.row))
 
   -- the last node before a row is there
   stop_there : (r : Rows L) (level : ℕ) (row : ArmedRow) (key : ℕ) → level < L → IsLinked r → IsStop r level row (Some key)
@@ -172,12 +172,12 @@ module _ {L : ℕ} where
       → node.links ≡ links → get r.nodes key ≡ None → Updates r.nodes r1.nodes key (Some node) → slab_len r1.nodes ≡ slab_len r.nodes + 1 → r1.nodes.capacity ≡ r.nodes.capacity
       → r1.tick ≡ r.tick → r1.heads ≡ r.heads → r1.places ≡ r.places → AreRelinked r1 r2 node.top lasts (replicate L (Some key))
       → r'.nodes ≡ r2.nodes → r'.heads ≡ r2.heads → r'.tick ≡ r2.tick → r'.places.items ≡ set r2.places.items node.row.no (Some key)
-      → row.timer < count r → AllByRecursion (IsAnew row) (line r) → After r' (put_row row (line r))
-  inserted_row r r1 r2 r' node key lasts links row h is stops are links_are vacant up len cap tick1 heads1 places1 re nodes2 heads2 tick2 places2 below fresh =
+      → row.timer < count r → row.left ≤ 2147483647 → AllByRecursion (IsAnew row) (line r) → After r' (put_row row (line r))
+  inserted_row r r1 r2 r' node key lasts links row h is stops are links_are vacant up len cap tick1 heads1 places1 re nodes2 heads2 tick2 places2 below near fresh =
       let e : Entry = record { key = key; row = armed_row r.tick node.row; top = node.top } in
       let p = inserted_by r r1 r2 r' node key lasts links h stops are links_are vacant up len cap tick1 heads1 places1 re nodes2 heads2 tick2 places2 in
       subst (λ (a : ArmedRow). After r' (put_row a (line r))) is
-      (inserted r r' e lasts h stops p (subst (λ (a : ArmedRow). a.timer < count r) (sym is) below) (subst (λ (a : ArmedRow). AllByRecursion (IsAnew a) (line r)) (sym is) fresh))
+      (inserted r r' e lasts h stops p (subst (λ (a : ArmedRow). a.timer < count r) (sym is) below) (subst (λ (a : ArmedRow). a.left ≤ 2147483647) (sym is) near) (subst (λ (a : ArmedRow). AllByRecursion (IsAnew a) (line r)) (sym is) fresh))
 
   -- what the steps of a removal come to
   pub removed_by : (r r1 r2 r' : Rows L) (timer key : ℕ) (node : Node L) (lasts : List (Option ℕ)) → IsLinked r → AreStops r (armed_row r.tick node.row) lasts
@@ -231,7 +231,7 @@ module _ {L : ℕ} where
         some_level = some;
         tick = tick;
         chain = λ level less. ap (λ (l : List (Option ℕ)). get_or l level None) none ∙ none_at L level;
-        in_order = record { in_order = tt; below = tt };
+        in_order = record { in_order = tt; below = tt; near = tt };
         counted = ap (λ (s : List (Option (Node L))). count_by is_some s) empty;
         room = omega (arith, ap length places, length-replicate {A = Option ℕ} n None, room);
         each = λ key x e. absurd (let none_there : entry_at (slot_at r 0) key ≡ None = ap (λ (s : List (Option (Node L))). option_map (entry_of key) (slot_of r.tick 0 (get_or s key None))) empty in let no_row : ⊥ = cc in no_row);

@@ -193,9 +193,9 @@ module _ {L : ℕ} where
       let tail : IsChain at' (Some e.key) (e ∷ g) = (refl, link_on r level last, p.put, chain_same at at' (link_on r level last) g same_rest behind) in
       relinked at at' (first_link r level) (first_link r' level) (Some e.key) f g (e ∷ g) chain (own_front f g own) (p.first ∙ ap (λ l. first_after l (Some e.key) (first_link r level)) (sym ends)) changed same_front tail
 
-  pub inserted : (r r' : Rows L) (e : Entry) (lasts : List (Option ℕ)) → IsLinked r → AreStops r e.row lasts → IsInserted r r' e lasts → e.row.timer < count r
+  pub inserted : (r r' : Rows L) (e : Entry) (lasts : List (Option ℕ)) → IsLinked r → AreStops r e.row lasts → IsInserted r r' e lasts → e.row.timer < count r → e.row.left ≤ 2147483647
       → AllByRecursion (IsAnew e.row) (line r) → After r' (put_row e.row (line r))
-  inserted r r' e lasts h stops p below fresh =
+  inserted r r' e lasts h stops p below near fresh =
       let w = stops 0 h.some_level in
       let row = e.row in
       let parts : entries r ≡ w.front ++ w.rest = sym (on_level-lowest (entries r)) ∙ w.parts in
@@ -226,7 +226,7 @@ module _ {L : ℕ} where
             subst (λ es. IsChain (slot_at r' level) (first_link r' level) es) all
             (subst (λ l. IsChain (slot_at r' level) l (on_level level (entries r))) (sym q.first)
             (chain_same (slot_at r level) (slot_at r' level) (first_link r level) (on_level level (entries r)) apart chain)));
-        in_order = subst (IsLine (length r'.places.items)) (sym rows) (subst (λ n. IsLine n (put_row row (line r))) (sym (ap length p.places ∙ length-set r.places.items row.timer (Some e.key))) (IsLine-put_row (count r) row (line r) below fresh h.in_order));
+        in_order = subst (IsLine (length r'.places.items)) (sym rows) (subst (λ n. IsLine n (put_row row (line r))) (sym (ap length p.places ∙ length-set r.places.items row.timer (Some e.key))) (IsLine-put_row (count r) row (line r) below near fresh h.in_order));
         counted = omega (arith, p.counted, h.counted, ap length parts, length-append w.front w.rest, length-append w.front (e ∷ w.rest));
         room = omega (arith, ap length p.places, length-set r.places.items row.timer (Some e.key), p.capacity, h.room);
         each = λ k x is. dite (ℕ_discrete k e.key)

@@ -59,10 +59,11 @@ IsInOrder-put_row row (r ∷ rs) a h = by_test (nat_lt row.left r.left) refl (Is
         let later : r.number < row.number = a0.later in
         (Each-put_row (FiresBefore r) row rs (record { sooner = more; started_first = λ _. later; other_start = omega arith; other_timer = a0.other_timer }) h.0, k)
 
-pub IsLine-put_row : (count : ℕ) (row : ArmedRow) (rows : List ArmedRow) → row.timer < count → AllByRecursion (IsAnew row) rows → IsLine count rows → IsLine count (put_row row rows)
-IsLine-put_row count row rows below a h = record {
+pub IsLine-put_row : (count : ℕ) (row : ArmedRow) (rows : List ArmedRow) → row.timer < count → row.left ≤ 2147483647 → AllByRecursion (IsAnew row) rows → IsLine count rows → IsLine count (put_row row rows)
+IsLine-put_row count row rows below near a h = record {
   in_order = IsInOrder-put_row row rows a h.in_order;
   below = Each-put_row (λ (r : ArmedRow). r.timer < count) row rows below h.below;
+  near = Each-put_row (λ (r : ArmedRow). r.left ≤ 2147483647) row rows near h.near;
 }
 
 by_start-put_row : (row : ArmedRow) (rows : List ArmedRow) → AllByRecursion (IsAnew row) rows → by_number (put_row row rows) ≡ put_by_number row (by_number rows)
@@ -142,6 +143,7 @@ pub IsLine-take_out : (count timer : ℕ) (rows : List ArmedRow) → IsLine coun
 IsLine-take_out count timer rows h = record {
   in_order = IsInOrder-take_out timer rows h.in_order;
   below = Each-take_out (λ (r : ArmedRow). r.timer < count) timer rows h.below;
+  near = Each-take_out (λ (r : ArmedRow). r.left ≤ 2147483647) timer rows h.near;
 }
 
 -- looking up a timer
@@ -252,8 +254,8 @@ length-put_row row (r ∷ rs) = by_test (nat_lt row.left r.left) (length-put_row
     by_test false e = omega arith
 
 -- a timer that isn't armed leaves room
-pub has_room : (count : ℕ) (row : ArmedRow) (rows : List ArmedRow) → row.timer < count → AllByRecursion (IsAnew row) rows → IsLine count rows → length rows < count
-has_room count row rows below a h = omega (arith, length-put_row row rows, fits count (put_row row rows) (IsLine-put_row count row rows below a h))
+pub has_room : (count : ℕ) (row : ArmedRow) (rows : List ArmedRow) → row.timer < count → row.left ≤ 2147483647 → AllByRecursion (IsAnew row) rows → IsLine count rows → length rows < count
+has_room count row rows below near a h = omega (arith, length-put_row row rows, fits count (put_row row rows) (IsLine-put_row count row rows below near a h))
 
 -- rows some ticks later
 
@@ -286,8 +288,12 @@ below-after : (count n : ℕ) (rows : List ArmedRow) → AllByRecursion (λ (r :
 below-after count n [] h = tt
 below-after count n (r ∷ rs) h = (h.0, below-after count n rs h.1)
 
+near-after : (n : ℕ) (rows : List ArmedRow) → AllByRecursion (λ (r : ArmedRow). r.left ≤ 2147483647) rows → AllByRecursion (λ (r : ArmedRow). r.left ≤ 2147483647) (map (row_after n) rows)
+near-after n [] h = tt
+near-after n (r ∷ rs) h = (let h0 = h.0 in omega arith, near-after n rs h.1)
+
 pub IsLine-after : (count n : ℕ) (rows : List ArmedRow) → AllByRecursion (λ (r : ArmedRow). n ≤ r.left) rows → IsLine count rows → IsLine count (map (row_after n) rows)
-IsLine-after count n rows all h = record { in_order = IsInOrder-after n rows all h.in_order; below = below-after count n rows h.below }
+IsLine-after count n rows all h = record { in_order = IsInOrder-after n rows all h.in_order; below = below-after count n rows h.below; near = near-after n rows h.near }
 
 -- what contracts see, part by part
 pub armed-is : (t t' c c' : ℕ) (l l' : List ArmedRow) → t ≡ t' → c ≡ c' → l ≡ l' → (let a : Armed = record { tick = t; count = c; rows = l } in a) ≡ (let b : Armed = record { tick = t'; count = c'; rows = l' } in b)

@@ -24,10 +24,11 @@ abbrev pub IsInOrder : List ArmedRow → Type 0
 IsInOrder [] = Unit {0}
 IsInOrder (row ∷ rows) = AllByRecursion (FiresBefore row) rows × IsInOrder rows
 
--- rows of timers below a number, in the order in which they fire
+-- rows of timers below a number, each due within half the tick's range, in the order in which they fire
 pub record IsLine (count : ℕ) (rows : List ArmedRow) : Type 0 where
   pub in_order : IsInOrder rows
   pub below : AllByRecursion (λ (r : ArmedRow). r.timer < count) rows
+  pub near : AllByRecursion (λ (r : ArmedRow). r.left ≤ 2147483647) rows
 
 -- a row put before those of which more is left
 abbrev pub put_row : ArmedRow → List ArmedRow → List ArmedRow

@@ -103,6 +103,7 @@ impl<const L: usize> Rows<L> {
     pub fn insert(&mut self, no: TimerNo, after: u32, at: u64)
         requires linked { IsLinked self.old }
         requires below { no < count self.old }
+        requires near { after ≤ 2147483647 }
         requires anew { AllByRecursion (IsAnew (record { left = after; number = at; timer = no })) (line self.old) }
         ensures linked { IsLinked self.new }
         ensures line { line self.new ≡ put_row (record { left = after; number = at; timer = no }) (line self.old) }

@@ -1,4 +1,4 @@
-ghost use Rattle.std.specs.Prelude.{◌≡◌, ◌+◌, ◌<◌, ◌≤◌, ◌∷◌, ◌++◌, [], All, map, false, is_some, IfOk, MatchOption};
+ghost use Rattle.std.specs.Prelude.{◌≡◌, ◌+◌, ◌<◌, ◌≤◌, ◌∷◌, ◌++◌, [], All, map, false, is_some, IfOk, IfSome, MatchOption};
 ghost use Rattle.timer_skip.specs.Armed.{is_armed, due_of, due_rows, without, after_ticks, IsLeastLeft};
 
 use crate::rows::Rows;
@@ -78,9 +78,11 @@ impl<const L: usize> Timers<L> {
         self.rows.due(no)
     }
 
-    /// The least number of ticks that are left of a row: `None` exactly where nothing is armed.
+    /// The least number of ticks that are left of a row, at most 2,147,483,647: `None` exactly where nothing
+    /// is armed.
     pub fn next_due(&self) -> Option<u32>
-        ensures { MatchOption result (self.now.rows ≡ []) (λ left. IsLeastLeft left self.now.rows) }
+        ensures near { IfSome result (λ left. left ≤ 2147483647) }
+        ensures least { MatchOption result (self.now.rows ≡ []) (λ left. IsLeastLeft left self.now.rows) }
     {
         self.rows.next_due()
     }

@@ -11,7 +11,7 @@ use Rattle.timer_skip.proofs.rows.Rows.insert.Given.{Over}
 use Rattle.timer_skip.proofs.rows.Rows.insert.Goals as goal
 
 pub insert_reserved-key-requires : goal.insert_reserved-key-requires
-insert_reserved-key-requires g c = is_room c.args.self.now (record { left = c.args.after; number = c.args.at; timer = c.args.no }) c.requires.linked c.requires.below c.requires.anew
+insert_reserved-key-requires g c = is_room c.args.self.now (record { left = c.args.after; number = c.args.at; timer = c.args.no }) c.requires.linked c.requires.below c.requires.near c.requires.anew
 
 -- what is left once the row is in
 put : (g : Over) (c : goal.After-self-1 g)
@@ -30,7 +30,7 @@ put g c =
     inserted_row r r1 r2 r' _ key c.before-before.result c.links-links.result row linked
     (ap (λ n. (let a : ArmedRow = record { left = n; number = c.args.at; timer = c.args.no } in a)) (left-new r.tick c.args.after h.tick c.ranges.after.fits))
     c.before-before.ensures c.links-links.ensures refl made.was_vacant made.updates made.len made.capacity refl refl refl c.relink.ensures refl refl refl
-    (ap (λ n. set r2.places.items n (Some key)) c.no.view_is) c.requires.below c.requires.anew
+    (ap (λ n. set r2.places.items n (Some key)) c.no.view_is) c.requires.below c.requires.near c.requires.anew
 
 pub returns-clause-linked : goal.returns-clause-linked
 returns-clause-linked g c = (put g c).linked

@@ -1,5 +1,5 @@
-use Rattle.std.proofs.Common.{None, Some, ◌≡◌, ◌≤◌, List, [], ◌∷◌, ℕ, ◌==◌, Option, true, IsTrue, MatchOption, ◌||◌, refl, ◌∙◌, sym, ap, subst, arith, slice_get}
-use Rattle.std.specs.List.{All, list_any}
+use Rattle.std.proofs.Common.{None, Some, ◌≡◌, ◌≤◌, List, [], ◌∷◌, ℕ, ◌==◌, Option, true, IsTrue, IfSome, MatchOption, ◌||◌, refl, ◌∙◌, sym, ap, subst, arith, slice_get}
+use Rattle.std.specs.List.{All, AllByRecursion, list_any}
 use Rattle.std.specs.Option.{option_map}
 use Rattle.std.proofs.lemmas.List.Elements.{All-from_recursion}
 use Rattle.std.proofs.lemmas.Bool.Decides.{nat_tests}
@@ -31,9 +31,19 @@ both : (o : Option ℕ) (rows : List ArmedRow) → MatchOption o (rows ≡ []) (
 both None rows c l = c
 both (Some left) rows c l = record { one_has_it = c; none_has_less = l }
 
-pub returns : goal.returns
+first_near : (rows : List ArmedRow) → AllByRecursion (λ (r : ArmedRow). r.left ≤ 2147483647) rows → IfSome (first_left rows) (λ left. left ≤ 2147483647)
 unfolding first_left
-returns g c =
+first_near [] h = tt
+first_near (r ∷ rs) h = h.0
+
+pub returns-clause-near : goal.returns-clause-near
+unfolding first_left
+returns-clause-near g c =
+    subst (λ (o : Option ℕ). IfSome o (λ left. left ≤ 2147483647)) (sym c.next_due.ensures) (first_near (line c.self.inside.rows) c.self.invariant.in_order.near)
+
+pub returns-clause-least : goal.returns-clause-least
+unfolding first_left
+returns-clause-least g c =
     let rows = line c.self.inside.rows in
     subst (λ (a : Armed). MatchOption c.next_due.result (a.rows ≡ []) (λ left. IsLeastLeft left a.rows)) c.self.view_is
     (subst (λ (o : Option ℕ). MatchOption o (by_number rows ≡ []) (λ left. IsLeastLeft left (by_number rows))) (sym c.next_due.ensures)

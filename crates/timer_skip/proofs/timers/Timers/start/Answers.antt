@@ -16,7 +16,7 @@ pub insert-requires : goal.insert-requires
 insert-requires g c =
     let row : ArmedRow = record { left = c.args.after; number = c.args.at; timer = c.args.no } in
     let fresh = anew row (line c.self.inside.rows) c.args.self.now (ap (λ (a : Armed). a.rows) c.self.view_is) c.requires.free c.requires.latest in
-    (search rules, (c.self.invariant, (omega (arith, ap (λ (a : Armed). a.count) c.self.view_is, c.requires.below), fresh)))
+    (search rules, (c.self.invariant, (omega (arith, ap (λ (a : Armed). a.count) c.self.view_is, c.requires.below), (c.requires.near, fresh))))
 
 pub returns : goal.returns
 returns g c =
