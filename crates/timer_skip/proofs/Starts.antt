@@ -2,11 +2,7 @@
 use Rattle.std.proofs.Common.{ℕ, ◌≡◌, ◌≢◌, ◌<◌, List, [], ◌∷◌, ◌++◌, filter, Bool, true, false, cond, ◌||◌, ◌&&◌, nat_lt, Option, Some, refl, sym, ap, ◌∙◌, arith}
 use Rattle.std.specs.List.{AllByRecursion, list_any, find}
 use Rattle.std.proofs.lemmas.Bool.Decides.{nat_tests}
-use Rattle.rt_plain.specs.State.{ArmedRow}
-use Rattle.rt_plain.specs.Due.{put_by_number, by_number}
-
-abbrev pub Timed : Type 0
-Timed = ArmedRow ℕ
+use Rattle.timer_skip.specs.Armed.{ArmedRow, put_by_number, by_number}
 
 if-true : {X : Type 0} (c : Bool) (x y : X) → c ≡ true → cond c x y ≡ x
 if-true c x y e = ap (λ b. cond b x y) e
@@ -16,7 +12,7 @@ if-false c x y e = ap (λ b. cond b x y) e
 
 -- what holds of a row and of each of a list
 
-pub Each-put : (P : Timed → Type 0) (r : Timed) (xs : List Timed) → P r → AllByRecursion P xs → AllByRecursion P (put_by_number r xs)
+pub Each-put : (P : ArmedRow → Type 0) (r : ArmedRow) (xs : List ArmedRow) → P r → AllByRecursion P xs → AllByRecursion P (put_by_number r xs)
 Each-put P r [] h k = (h, tt)
 Each-put P r (x ∷ xs) h k = by_test (nat_lt r.number x.number) (Each-put P r xs h k.1)
   where
@@ -24,7 +20,7 @@ Each-put P r (x ∷ xs) h k = by_test (nat_lt r.number x.number) (Each-put P r x
     by_test true e = (h, k)
     by_test false e = (k.0, e)
 
-pub Each-from_put : (P : Timed → Type 0) (r : Timed) (xs : List Timed) → AllByRecursion P (put_by_number r xs) → P r × AllByRecursion P xs
+pub Each-from_put : (P : ArmedRow → Type 0) (r : ArmedRow) (xs : List ArmedRow) → AllByRecursion P (put_by_number r xs) → P r × AllByRecursion P xs
 Each-from_put P r [] h = h
 Each-from_put P r (x ∷ xs) h = by_test (nat_lt r.number x.number) h (Each-from_put P r xs)
   where
@@ -32,11 +28,11 @@ Each-from_put P r (x ∷ xs) h = by_test (nat_lt r.number x.number) h (Each-from
     by_test true k more = k
     by_test false k more = ((more k.1).0, (k.0, (more k.1).1))
 
-pub Each-by_number : (P : Timed → Type 0) (xs : List Timed) → AllByRecursion P xs → AllByRecursion P (by_number xs)
+pub Each-by_number : (P : ArmedRow → Type 0) (xs : List ArmedRow) → AllByRecursion P xs → AllByRecursion P (by_number xs)
 Each-by_number P [] h = tt
 Each-by_number P (x ∷ xs) h = Each-put P x (by_number xs) h.0 (Each-by_number P xs h.1)
 
-pub Each-from_by_number : (P : Timed → Type 0) (xs : List Timed) → AllByRecursion P (by_number xs) → AllByRecursion P xs
+pub Each-from_by_number : (P : ArmedRow → Type 0) (xs : List ArmedRow) → AllByRecursion P (by_number xs) → AllByRecursion P xs
 Each-from_by_number P [] h = tt
 Each-from_by_number P (x ∷ xs) h = let k = Each-from_put P x (by_number xs) h in (k.0, Each-from_by_number P xs k.1)
 
@@ -53,48 +49,48 @@ Each-filter {X} P p (x ∷ xs) h = by_test (p x) (Each-filter P p xs h.1)
     by_test false e = e
 
 -- rows in the order of their start numbers
-abbrev pub IsByStart : List Timed → Type 0
+abbrev pub IsByStart : List ArmedRow → Type 0
 IsByStart [] = Unit {0}
-IsByStart (x ∷ xs) = AllByRecursion (λ (y : Timed). x.number < y.number) xs × IsByStart xs
+IsByStart (x ∷ xs) = AllByRecursion (λ (y : ArmedRow). x.number < y.number) xs × IsByStart xs
 
 -- rows of which no two have one start number
-abbrev pub HaveOwnStarts : List Timed → Type 0
+abbrev pub HaveOwnStarts : List ArmedRow → Type 0
 HaveOwnStarts [] = Unit {0}
-HaveOwnStarts (x ∷ xs) = AllByRecursion (λ (y : Timed). x.number ≢ y.number) xs × HaveOwnStarts xs
+HaveOwnStarts (x ∷ xs) = AllByRecursion (λ (y : ArmedRow). x.number ≢ y.number) xs × HaveOwnStarts xs
 
-IsByStart-put : (r : Timed) (xs : List Timed) → AllByRecursion (λ (y : Timed). r.number ≢ y.number) xs → IsByStart xs → IsByStart (put_by_number r xs)
+IsByStart-put : (r : ArmedRow) (xs : List ArmedRow) → AllByRecursion (λ (y : ArmedRow). r.number ≢ y.number) xs → IsByStart xs → IsByStart (put_by_number r xs)
 IsByStart-put r [] d s = (tt, tt)
 IsByStart-put r (x ∷ xs) d s = by_test (nat_lt r.number x.number) refl (IsByStart-put r xs d.1 s.1)
   where
     by_test : (b : Bool) → nat_lt r.number x.number ≡ b → IsByStart (put_by_number r xs) → IsByStart (cond b (r ∷ x ∷ xs) (x ∷ put_by_number r xs))
     by_test true e k =
         let less : r.number < x.number = grind (arith, nat_tests, e) in
-        ((less, Each-weaker (λ (y : Timed). x.number < y.number) (λ (y : Timed). r.number < y.number) (λ y h. omega arith) xs s.0), s)
+        ((less, Each-weaker (λ (y : ArmedRow). x.number < y.number) (λ (y : ArmedRow). r.number < y.number) (λ y h. omega arith) xs s.0), s)
     by_test false e k =
         let more : x.number < r.number = grind (arith, nat_tests, e, d.0) in
-        (Each-put (λ (y : Timed). x.number < y.number) r xs more s.0, k)
+        (Each-put (λ (y : ArmedRow). x.number < y.number) r xs more s.0, k)
 
-pub IsByStart-by_number : (xs : List Timed) → HaveOwnStarts xs → IsByStart (by_number xs)
+pub IsByStart-by_number : (xs : List ArmedRow) → HaveOwnStarts xs → IsByStart (by_number xs)
 IsByStart-by_number [] d = tt
-IsByStart-by_number (x ∷ xs) d = IsByStart-put x (by_number xs) (Each-by_number (λ (y : Timed). x.number ≢ y.number) xs d.0) (IsByStart-by_number xs d.1)
+IsByStart-by_number (x ∷ xs) d = IsByStart-put x (by_number xs) (Each-by_number (λ (y : ArmedRow). x.number ≢ y.number) xs d.0) (IsByStart-by_number xs d.1)
 
 -- a row that was started before all others
-put_first : (r : Timed) (xs : List Timed) → AllByRecursion (λ (y : Timed). r.number < y.number) xs → put_by_number r xs ≡ r ∷ xs
+put_first : (r : ArmedRow) (xs : List ArmedRow) → AllByRecursion (λ (y : ArmedRow). r.number < y.number) xs → put_by_number r xs ≡ r ∷ xs
 put_first r [] h = refl
 put_first r (x ∷ xs) h = if-true (nat_lt r.number x.number) _ _ (grind (arith, nat_tests, h.0))
 
 -- a row that was started after all others
-pub put_last : (r : Timed) (xs : List Timed) → AllByRecursion (λ (y : Timed). y.number < r.number) xs → put_by_number r xs ≡ xs ++ r ∷ []
+pub put_last : (r : ArmedRow) (xs : List ArmedRow) → AllByRecursion (λ (y : ArmedRow). y.number < r.number) xs → put_by_number r xs ≡ xs ++ r ∷ []
 put_last r [] h = refl
 put_last r (x ∷ xs) h = if-false (nat_lt r.number x.number) _ _ (grind (arith, nat_tests, h.0)) ∙ ap (λ l. x ∷ l) (put_last r xs h.1)
 
 -- rows that are in order already
-pub by_number-same : (xs : List Timed) → IsByStart xs → by_number xs ≡ xs
+pub by_number-same : (xs : List ArmedRow) → IsByStart xs → by_number xs ≡ xs
 by_number-same [] s = refl
 by_number-same (x ∷ xs) s = ap (put_by_number x) (by_number-same xs s.1) ∙ put_first x xs s.0
 
 -- a filter before and after a row is put in
-filter-put : (p : Timed → Bool) (r : Timed) (xs : List Timed) → IsByStart xs → filter p (put_by_number r xs) ≡ cond (p r) (put_by_number r (filter p xs)) (filter p xs)
+filter-put : (p : ArmedRow → Bool) (r : ArmedRow) (xs : List ArmedRow) → IsByStart xs → filter p (put_by_number r xs) ≡ cond (p r) (put_by_number r (filter p xs)) (filter p xs)
 filter-put p r [] s = by_test (p r)
   where
     by_test : (b : Bool) → cond b (r ∷ []) [] ≡ cond b (r ∷ []) []
@@ -108,8 +104,8 @@ filter-put p r (x ∷ xs) s = by_tests (nat_lt r.number x.number) refl (p r) ref
         if-true (p r) _ _ f ∙ ap (λ l. r ∷ l) (if-true (p x) _ _ g) ∙ sym (if-true (nat_lt r.number x.number) _ _ e)
     by_tests true e true f false g more =
         let less : r.number < x.number = grind (arith, nat_tests, e) in
-        let later = Each-weaker (λ (y : Timed). x.number < y.number) (λ (y : Timed). r.number < y.number) (λ y h. omega arith) xs s.0 in
-        if-true (p r) _ _ f ∙ ap (λ l. r ∷ l) (if-false (p x) _ _ g) ∙ sym (put_first r (filter p xs) (Each-filter (λ (y : Timed). r.number < y.number) p xs later))
+        let later = Each-weaker (λ (y : ArmedRow). x.number < y.number) (λ (y : ArmedRow). r.number < y.number) (λ y h. omega arith) xs s.0 in
+        if-true (p r) _ _ f ∙ ap (λ l. r ∷ l) (if-false (p x) _ _ g) ∙ sym (put_first r (filter p xs) (Each-filter (λ (y : ArmedRow). r.number < y.number) p xs later))
     by_tests true e false f true g more = if-false (p r) _ _ f ∙ if-true (p x) _ _ g
     by_tests true e false f false g more = if-false (p r) _ _ f ∙ if-false (p x) _ _ g
     by_tests false e true f true g more =
@@ -118,7 +114,7 @@ filter-put p r (x ∷ xs) s = by_tests (nat_lt r.number x.number) refl (p r) ref
     by_tests false e false f true g more = if-true (p x) _ _ g ∙ ap (λ l. x ∷ l) (more ∙ if-false (p r) _ _ f)
     by_tests false e false f false g more = if-false (p x) _ _ g ∙ more ∙ if-false (p r) _ _ f
 
-pub filter-by_number : (p : Timed → Bool) (xs : List Timed) → HaveOwnStarts xs → filter p (by_number xs) ≡ by_number (filter p xs)
+pub filter-by_number : (p : ArmedRow → Bool) (xs : List ArmedRow) → HaveOwnStarts xs → filter p (by_number xs) ≡ by_number (filter p xs)
 filter-by_number p [] d = refl
 filter-by_number p (x ∷ xs) d = filter-put p x (by_number xs) (IsByStart-by_number xs d.1) ∙ by_test (p x) (filter-by_number p xs d.1)
   where
@@ -128,7 +124,7 @@ filter-by_number p (x ∷ xs) d = filter-put p x (by_number xs) (IsByStart-by_nu
     by_test false e = e
 
 -- of two rows it doesn't matter which is put in first
-pub put_comm : (a b : Timed) (xs : List Timed) → a.number ≢ b.number → put_by_number a (put_by_number b xs) ≡ put_by_number b (put_by_number a xs)
+pub put_comm : (a b : ArmedRow) (xs : List ArmedRow) → a.number ≢ b.number → put_by_number a (put_by_number b xs) ≡ put_by_number b (put_by_number a xs)
 put_comm a b [] h = by_test (nat_lt a.number b.number) refl
   where
     by_test : (c : Bool) → nat_lt a.number b.number ≡ c → put_by_number a (b ∷ []) ≡ put_by_number b (a ∷ [])
@@ -136,10 +132,10 @@ put_comm a b [] h = by_test (nat_lt a.number b.number) refl
     by_test false e = if-false (nat_lt a.number b.number) _ _ e ∙ sym (if-true (nat_lt b.number a.number) _ _ (grind (arith, nat_tests)))
 put_comm a b (c ∷ cs) h = by_tests (nat_lt a.number b.number) refl (nat_lt a.number c.number) refl (nat_lt b.number c.number) refl (put_comm a b cs h)
   where
-    one : (x y : Timed) (l : List Timed) → nat_lt x.number y.number ≡ true → put_by_number x (y ∷ l) ≡ x ∷ y ∷ l
+    one : (x y : ArmedRow) (l : List ArmedRow) → nat_lt x.number y.number ≡ true → put_by_number x (y ∷ l) ≡ x ∷ y ∷ l
     one x y l e = if-true _ _ _ e
 
-    two : (x y : Timed) (l : List Timed) → nat_lt x.number y.number ≡ false → put_by_number x (y ∷ l) ≡ y ∷ put_by_number x l
+    two : (x y : ArmedRow) (l : List ArmedRow) → nat_lt x.number y.number ≡ false → put_by_number x (y ∷ l) ≡ y ∷ put_by_number x l
     two x y l e = if-false _ _ _ e
 
     by_tests : (p : Bool) → nat_lt a.number b.number ≡ p → (q : Bool) → nat_lt a.number c.number ≡ q → (r : Bool) → nat_lt b.number c.number ≡ r
@@ -160,7 +156,7 @@ put_comm a b (c ∷ cs) h = by_tests (nat_lt a.number b.number) refl (nat_lt a.n
         ap (put_by_number a) (two b c cs bc) ∙ two a c (put_by_number b cs) ac ∙ ap (λ l. c ∷ l) rest ∙ sym (ap (put_by_number b) (two a c cs ac) ∙ two b c (put_by_number a cs) bc)
 
 -- whether a row passes a test, and the first that does, once a row is put in
-any-put : (p : Timed → Bool) (r : Timed) (xs : List Timed) → list_any p (put_by_number r xs) ≡ (p r || list_any p xs)
+any-put : (p : ArmedRow → Bool) (r : ArmedRow) (xs : List ArmedRow) → list_any p (put_by_number r xs) ≡ (p r || list_any p xs)
 any-put p r [] = refl
 any-put p r (x ∷ xs) = by_test (nat_lt r.number x.number) (any-put p r xs)
   where
@@ -174,11 +170,11 @@ any-put p r (x ∷ xs) = by_test (nat_lt r.number x.number) (any-put p r xs)
         swap false true c = refl
         swap false false c = refl
 
-pub any-by_number : (p : Timed → Bool) (xs : List Timed) → list_any p (by_number xs) ≡ list_any p xs
+pub any-by_number : (p : ArmedRow → Bool) (xs : List ArmedRow) → list_any p (by_number xs) ≡ list_any p xs
 any-by_number p [] = refl
 any-by_number p (x ∷ xs) = any-put p x (by_number xs) ∙ ap (λ b. p x || b) (any-by_number p xs)
 
-find-put : (p : Timed → Bool) (r : Timed) (xs : List Timed) → (p r && list_any p xs) ≡ false → find p (put_by_number r xs) ≡ cond (p r) (Some r) (find p xs)
+find-put : (p : ArmedRow → Bool) (r : ArmedRow) (xs : List ArmedRow) → (p r && list_any p xs) ≡ false → find p (put_by_number r xs) ≡ cond (p r) (Some r) (find p xs)
 find-put p r [] h = refl
 find-put p r (x ∷ xs) h = by_test (nat_lt r.number x.number) (find-put p r xs (apart (p r) (p x) (list_any p xs) h).1)
   where
@@ -187,7 +183,7 @@ find-put p r (x ∷ xs) h = by_test (nat_lt r.number x.number) (find-put p r xs 
     apart true false c e = (refl, e)
     apart false b c e = (refl, refl)
 
-    swap : (a b : Bool) (o : Option Timed) → (b && a) ≡ false → cond a (Some x) (cond b (Some r) o) ≡ cond b (Some r) (cond a (Some x) o)
+    swap : (a b : Bool) (o : Option ArmedRow) → (b && a) ≡ false → cond a (Some x) (cond b (Some r) o) ≡ cond b (Some r) (cond a (Some x) o)
     swap true true o e = grind arith
     swap true false o e = refl
     swap false true o e = refl
@@ -198,11 +194,11 @@ find-put p r (x ∷ xs) h = by_test (nat_lt r.number x.number) (find-put p r xs 
     by_test false e = ap (λ o. cond (p x) (Some x) o) e ∙ swap (p x) (p r) (find p xs) (apart (p r) (p x) (list_any p xs) h).0
 
 -- a test that at most one row of a list passes
-abbrev pub PassesOnce : (Timed → Bool) → List Timed → Type 0
+abbrev pub PassesOnce : (ArmedRow → Bool) → List ArmedRow → Type 0
 PassesOnce p [] = Unit {0}
 PassesOnce p (x ∷ xs) = ((p x && list_any p xs) ≡ false) × PassesOnce p xs
 
-pub find-by_number : (p : Timed → Bool) (xs : List Timed) → PassesOnce p xs → find p (by_number xs) ≡ find p xs
+pub find-by_number : (p : ArmedRow → Bool) (xs : List ArmedRow) → PassesOnce p xs → find p (by_number xs) ≡ find p xs
 find-by_number p [] h = refl
 find-by_number p (x ∷ xs) h =
     find-put p x (by_number xs) (ap (λ b. p x && b) (any-by_number p xs) ∙ h.0) ∙ ap (λ o. cond (p x) (Some x) o) (find-by_number p xs h.1)

@@ -4,8 +4,6 @@
 mod node;
 mod row;
 mod rows;
-#[cfg(test)]
-mod tests;
 mod timers;
 
 pub use timers::Timers;

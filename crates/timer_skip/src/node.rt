@@ -1,9 +1,9 @@
 use crate::row::Row;
 
-/// A row with, on each level, the key of a node that fires later. On level 0 it is the next one, and
-/// higher links only shorten the way.
+/// A row with the highest level that it is on, and for each level the key of the next node there.
 #[derive(Drop)]
 pub struct Node<const L: usize> {
     pub row: Row,
+    pub top: usize,
     pub links: [Option<usize>; L],
 }

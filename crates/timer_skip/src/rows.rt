@@ -1,34 +1,42 @@
-ghost use Rattle.std.specs.Prelude.{ℕ, ◌≡◌, ◌≢◌, ◌+◌, ◌<◌, ◌≤◌, [], length, true, None, Some, slice_get, slice_index_or, IfOk, IfSome, MatchOption};
+ghost use Rattle.std.specs.Prelude.{ℕ, ◌≡◌, ◌≢◌, ◌+◌, ◌%◌, ◌<◌, ◌≤◌, [], map, length, true, None, Some, slice_get, slice_index_or, IfOk, MatchOption};
 ghost use Rattle.std.specs.List.{find, list_any, AllByRecursion};
 ghost use Rattle.std.specs.Option.{option_map};
 ghost use Rattle.slab.specs.Slab.{get};
 ghost use Rattle.timer_skip.specs.declared.node.Node.{Node};
 ghost use Rattle.timer_skip.specs.declared.row.Row.{Row};
-ghost use Rattle.timer_skip.specs.Firing.{put_row, take_out, is_of, IsAnew};
-ghost use Rattle.timer_skip.specs.Links.{IsLinked, line, count, sooner, slot_at, first_link, link_after, IsBefore, IsStop, IsEnd, entries, key_of, SameLine, IsRelinked};
+ghost use Rattle.timer_skip.specs.Armed.{ArmedRow, is_row_of, left_of, row_after, tick_after};
+ghost use Rattle.timer_skip.specs.Firing.{armed_row, sooner, put_row, take_out, IsAnew};
+ghost use Rattle.timer_skip.specs.Links.{IsLinked, line, count, slot_at, link_on, is_before, IsFrom, IsStop, IsEnd, AreStops, AreLinks, entries, key_of, SameLevel, SameRest, IsRelinked, AreRelinked};
 
 use crate::node::Node;
 use crate::row::Row;
+use rand_core::SeedableRng;
+use rand_core::utils::NextWord;
+use rand_pcg::Pcg32;
 use rt_base::{Steps, TimerNo};
 use slab::Slab;
 use std::alloc::{AllocError, Global};
 use std::sync::ledger::Ledger;
 
-/// The armed rows in a skip list: nodes in a slab, with a link on each level, and the key of each
-/// timer's node. Only `first` gives out a row, and it counts the read.
+/// The armed rows in a skip list: nodes in a slab, with a link on each level that they are on, and the
+/// key of each timer's node. Each node is on the lowest level, and on the next one with a chance of one
+/// in four. Only `first` gives out a row, and it counts the read.
 #[derive(Drop)]
 pub struct Rows<const L: usize> {
     nodes: Slab<Node<L>>,
     heads: [Option<usize>; L],
     places: Vec<Option<usize>>,
+    tick: u32,
+    draws: Pcg32,
 }
 
 impl<const L: usize> Rows<L> {
-    /// No row, and room for as many as are told.
-    pub fn new(alloc: Global, count: u16) -> Result<Rows<L>, AllocError>
+    /// No row at a tick, and room for as many as are told.
+    pub fn new(alloc: Global, count: u16, now: u32) -> Result<Rows<L>, AllocError>
         requires { 0 < L }
         ensures line { IfOk result (λ rows. line rows ≡ []) }
         ensures count { IfOk result (λ rows. length rows.places.items ≡ count) }
+        ensures tick { IfOk result (λ rows. rows.tick ≡ now) }
         ensures linked { IfOk result (λ rows. IsLinked rows) }
     {
         let nodes = Slab::with_capacity(alloc, count as usize)?;
@@ -37,13 +45,15 @@ impl<const L: usize> Rows<L> {
             nodes,
             heads: [None; L],
             places,
+            tick: now,
+            draws: Pcg32::seed_from_u64(0),
         })
     }
 
     /// The row that fires first: `None` exactly where there is no row.
     pub fn first<M: Ledger>(&self, steps: &mut Steps<M>) -> Option<Row>
         requires { IsLinked self.now }
-        ensures row { result ≡ slice_get (line self.now) 0 }
+        ensures row { option_map (armed_row self.now.tick) result ≡ slice_get (line self.now) 0 }
         ensures count { steps.new ≡ steps.old + 1 }
     {
         steps.tick();
@@ -51,51 +61,73 @@ impl<const L: usize> Rows<L> {
         Some(node.row)
     }
 
-    /// When the row that fires first is due: `None` exactly where there is no row.
-    pub fn next_due(&self) -> Option<u64>
+    /// The ticks left until the row that fires first is due: `None` exactly where there is no row.
+    pub fn next_due(&self) -> Option<u32>
         requires { IsLinked self.now }
-        ensures { result ≡ option_map (λ row. row.due) (slice_get (line self.now) 0) }
+        ensures { result ≡ option_map (λ row. row.left) (slice_get (line self.now) 0) }
     {
         let soonest = self.nodes.get(self.heads[0]?)?;
-        Some(soonest.row.due)
+        Some(self.left(&soonest.row))
     }
 
-    /// When a timer is due: `None` exactly where it has no row.
-    pub fn due(&self, no: TimerNo) -> Option<u64>
+    /// The tick at which a timer is due: `None` exactly where it has no row.
+    pub fn due(&self, no: TimerNo) -> Option<u32>
         requires { IsLinked self.now }
-        ensures { result ≡ option_map (λ row. row.due) (find (is_of no) (line self.now)) }
+        ensures { result ≡ option_map (tick_after self.now.tick) (left_of no (line self.now)) }
     {
         let node = self.nodes.get(self.key_of(no)?)?;
-        Some(node.row.due)
+        Some(self.tick.wrapping_add(self.left(&node.row)))
     }
 
-    /// Puts in a row that is started after all others, of a timer that has none.
-    pub fn insert(&mut self, row: Row)
-        requires linked { IsLinked self.old }
-        requires below { row.no < count self.old }
-        requires anew { AllByRecursion (IsAnew row) (line self.old) }
-        ensures linked { IsLinked self.new }
-        ensures line { line self.new ≡ put_row row (line self.old) }
-        ensures count { count self.new ≡ count self.old }
+    /// The ticks left until a row is due.
+    pub fn left(&self, row: &Row) -> u32
+        requires { self.now.tick < 4294967296 }
+        ensures { result ≡ (armed_row self.now.tick row.now).left }
     {
-        let place = row.no.0 as usize;
-        let height = height(row.at);
+        row.due.wrapping_sub(self.tick)
+    }
+
+    /// So many ticks pass, as many at most as are left of each row. No row is touched.
+    pub fn advance(&mut self, n: u32)
+        requires linked { IsLinked self.old }
+        requires ahead { AllByRecursion (λ (row : ArmedRow). n ≤ row.left) (line self.old) }
+        ensures linked { IsLinked self.new }
+        ensures line { line self.new ≡ map (row_after n) (line self.old) }
+        ensures count { count self.new ≡ count self.old }
+        ensures tick { self.new.tick ≡ tick_after self.old.tick n }
+    {
+        self.tick = self.tick.wrapping_add(n);
+    }
+
+    /// Puts in a row that is started after all others, of a timer that has none, due so many ticks later.
+    pub fn insert(&mut self, no: TimerNo, after: u32, at: u64)
+        requires linked { IsLinked self.old }
+        requires below { no < count self.old }
+        requires near { after ≤ 2147483647 }
+        requires anew { AllByRecursion (IsAnew (record { left = after; number = at; timer = no })) (line self.old) }
+        ensures linked { IsLinked self.new }
+        ensures line { line self.new ≡ put_row (record { left = after; number = at; timer = no }) (line self.old) }
+        ensures count { count self.new ≡ count self.old }
+        ensures tick { self.new.tick ≡ self.old.tick }
+    {
+        let due = self.tick.wrapping_add(after);
+        let row = Row { due, at, no };
+        let top = (self.draws.next_word().trailing_zeros() / 2) as usize;
         let before = self.before(&row);
-        let mut links = [None; L];
-        links[0] = self.link(before[0], 0);
-        let key = self.nodes.insert_reserved(Node { row, links });
-        self.set_link(before[0], 0, Some(key));
-        self.places[place] = Some(key);
-        self.raise(key, height, &before);
+        let links = self.links(&before);
+        let key = self.nodes.insert_reserved(Node { row, top, links });
+        self.relink(&before, top, &[Some(key); L]);
+        self.places[no.0 as usize] = Some(key);
     }
 
     /// Takes out the row of a timer: false exactly where it has none.
     pub fn remove(&mut self, no: TimerNo) -> bool
         requires { IsLinked self.old }
-        ensures answer { result ≡ list_any (is_of no) (line self.old) }
+        ensures answer { result ≡ list_any (is_row_of no) (line self.old) }
         ensures linked { IsLinked self.new }
         ensures line { line self.new ≡ take_out no (line self.old) }
         ensures count { count self.new ≡ count self.old }
+        ensures tick { self.new.tick ≡ self.old.tick }
     {
         let Some(key) = self.key_of(no) else {
             return false;
@@ -104,10 +136,8 @@ impl<const L: usize> Rows<L> {
             return false;
         };
         let before = self.before(&node.row);
-        let next = self.link(Some(key), 0);
-        self.lower(key, &before);
-        self.set_link(before[0], 0, next);
-        let _ = self.nodes.remove(key);
+        let node = self.nodes.remove(key);
+        self.relink(&before, node.top, &node.links);
         self.places[no.0 as usize] = None;
         true
     }
@@ -123,7 +153,7 @@ impl<const L: usize> Rows<L> {
     // On each level, the last node there that fires before a row.
     fn before(&self, row: &Row) -> [Option<usize>; L]
         requires { IsLinked self.now }
-        ensures { IsStop self.now row.now (slice_index_or result 0 None) }
+        ensures { AreStops self.now (armed_row self.now.tick row.now) result }
     {
         let mut before = [None; L];
         let mut from = None;
@@ -141,9 +171,8 @@ impl<const L: usize> Rows<L> {
     fn walk(&self, from: Option<usize>, level: usize, row: &Row) -> Option<usize>
         requires linked { IsLinked self.now }
         requires level { level < L }
-        requires from { IsBefore self.now row.now from }
-        ensures before { IsBefore self.now row.now result }
-        ensures stop { level ≡ 0 → IsStop self.now row.now result }
+        requires from { IsFrom self.now level (armed_row self.now.tick row.now) from }
+        ensures { IsStop self.now level (armed_row self.now.tick row.now) result }
     {
         let mut last = from;
         for _ in 0..self.places.len() {
@@ -157,10 +186,12 @@ impl<const L: usize> Rows<L> {
 
     // The node behind another one on a level, where it fires before a row.
     fn step(&self, from: Option<usize>, level: usize, row: &Row) -> Option<usize>
-        requires { level < L }
-        ensures goes { IfSome result (λ key. IsBefore self.now row.now (Some key)) }
-        ensures low { level ≡ 0 → MatchOption result (IsEnd self.now row.now from) (λ key.
-            link_after (slot_at self.now.nodes) (first_link self.now) from ≡ Some key) }
+        requires tick { self.now.tick < 4294967296 }
+        requires level { level < L }
+        ensures goes { MatchOption result (IsEnd self.now level (armed_row self.now.tick row.now) from) (λ key.
+            link_on self.now level from ≡ Some key) }
+        ensures before { (key : ℕ) → result ≡ Some key →
+            is_before (armed_row self.now.tick row.now) (slot_at self.now level key) }
     {
         let next = self.link(from, level)?;
         if self.is_before(next, row) {
@@ -170,25 +201,24 @@ impl<const L: usize> Rows<L> {
         }
     }
 
-    // Links a node in on the levels above the lowest, up to its height.
-    fn raise(&mut self, key: usize, height: usize, before: &[Option<usize>; L])
-        ensures { SameLine self.old self.new }
+    // The links behind some nodes, one of each level.
+    fn links(&self, lasts: &[Option<usize>; L]) -> [Option<usize>; L]
+        ensures { AreLinks self.now lasts.now result }
     {
-        for level in 1..height.min(L) {
-            let next = self.link(before[level], level);
-            self.set_link(Some(key), level, next);
-            self.set_link(before[level], level, Some(key));
+        let mut links = [None; L];
+        for level in 0..L {
+            links[level] = self.link(lasts[level], level);
         }
+        links
     }
 
-    // Links a node out on the levels above the lowest.
-    fn lower(&mut self, key: usize, before: &[Option<usize>; L])
-        ensures { SameLine self.old self.new }
+    // Sets the links behind some nodes, one of each level up to the top.
+    fn relink(&mut self, lasts: &[Option<usize>; L], top: usize, links: &[Option<usize>; L])
+        ensures { AreRelinked self.old self.new top lasts.now links.now }
     {
-        for level in 1..L {
-            if self.link(before[level], level) == Some(key) {
-                let next = self.link(Some(key), level);
-                self.set_link(before[level], level, next);
+        for level in 0..L {
+            if level <= top {
+                self.set_link(lasts[level], level, links[level]);
             }
         }
     }
@@ -196,7 +226,7 @@ impl<const L: usize> Rows<L> {
     // The link of a node on a level, or where there is no node the first one there.
     fn link(&self, from: Option<usize>, level: usize) -> Option<usize>
         requires { level < L }
-        ensures { level ≡ 0 → result ≡ link_after (slot_at self.now.nodes) (first_link self.now) from }
+        ensures { result ≡ link_on self.now level from }
     {
         match from {
             None => self.heads[level],
@@ -207,8 +237,9 @@ impl<const L: usize> Rows<L> {
     // Sets the link of a node on a level, or where there is no node the first one there.
     fn set_link(&mut self, from: Option<usize>, level: usize, to: Option<usize>)
         requires { level < L }
-        ensures low { level ≡ 0 → IsRelinked self.old self.new from to }
-        ensures high { 0 < level → SameLine self.old self.new }
+        ensures link { IsRelinked self.old self.new level from to }
+        ensures levels { (other : ℕ) → other ≢ level → SameLevel self.old self.new other }
+        ensures rest { SameRest self.old self.new }
     {
         match from {
             None => self.heads[level] = to,
@@ -222,24 +253,23 @@ impl<const L: usize> Rows<L> {
 
     // Whether a node fires before a row.
     fn is_before(&self, key: usize, row: &Row) -> bool
-        ensures yes { result ≡ true → IsBefore self.now row.now (Some key) }
-        ensures no { (d : Node L) → get self.now.nodes key ≡ Some d → result ≡ sooner d.row row.now }
+        requires { self.now.tick < 4294967296 }
+        ensures yes { result ≡ true → (level : ℕ) → is_before (armed_row self.now.tick row.now) (slot_at self.now level key) }
+        ensures no { (d : Node L) → get self.now.nodes key ≡ Some d →
+            result ≡ sooner (armed_row self.now.tick d.row) (armed_row self.now.tick row.now) }
     {
         match self.nodes.get(key) {
             None => false,
-            Some(node) => is_sooner(&node.row, row),
+            Some(node) => self.is_sooner(&node.row, row),
         }
     }
-}
 
-// Whether one row fires before another.
-fn is_sooner(one: &Row, other: &Row) -> bool
-    ensures { result ≡ sooner one.now other.now }
-{
-    one.due < other.due || (one.due == other.due && one.at < other.at)
-}
-
-// On how many levels a row's node is linked: every second one on two, every fourth one on three, and so on.
-fn height(at: u64) -> usize {
-    at.trailing_zeros() as usize + 1
+    // Whether one row fires before another.
+    fn is_sooner(&self, one: &Row, other: &Row) -> bool
+        requires { self.now.tick < 4294967296 }
+        ensures { result ≡ sooner (armed_row self.now.tick one.now) (armed_row self.now.tick other.now) }
+    {
+        let (left, others) = (self.left(one), self.left(other));
+        left < others || (left == others && one.at < other.at)
+    }
 }

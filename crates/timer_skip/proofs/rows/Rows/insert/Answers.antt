@@ -1,31 +1,36 @@
-use Rattle.std.proofs.Common.{◌≡◌, ◌<◌, Option, Some, None, ℕ, length, get_or, set, replicate, get_or-set_same, refl, ap, ◌∙◌, arith}
-use Rattle.std.proofs.lemmas.List.{length-replicate}
-use Rattle.timer_skip.specs.declared.node.Node.{Node}
-use Rattle.timer_skip.specs.declared.row.Row.{Row}
+use Rattle.std.proofs.Common.{◌≡◌, ◌+◌, ◌%◌, Option, Some, ℕ, set, refl, ap}
+use Rattle.std.specs.Vec.{with_item}
 use Rattle.timer_skip.specs.declared.rows.Rows.{Rows}
+use Rattle.timer_skip.specs.Armed.{ArmedRow}
 use Rattle.timer_skip.specs.Firing.{put_row}
-use Rattle.timer_skip.specs.Links.{slot_of, line}
-use Rattle.timer_skip.proofs.Chains.{After, is_room, inserted, inserted_by, not_new}
+use Rattle.timer_skip.specs.Links.{IsLinked, line}
+use Rattle.timer_skip.proofs.Levels.{After}
+use Rattle.timer_skip.proofs.Changes.{is_room, inserted_row}
+use Rattle.timer_skip.proofs.Wraps.{left-new}
 use Rattle.timer_skip.proofs.rows.Rows.insert.Given.{Over}
 use Rattle.timer_skip.proofs.rows.Rows.insert.Goals as goal
 
 pub insert_reserved-key-requires : goal.insert_reserved-key-requires
-insert_reserved-key-requires g c = is_room c.args.self.now c.args.row c.requires.linked c.requires.below c.requires.anew
+insert_reserved-key-requires g c = is_room c.args.self.now (record { left = c.args.after; number = c.args.at; timer = c.args.no }) c.requires.linked c.requires.below c.requires.near c.requires.anew
 
-put : (g : Over) (c : goal.After-raise g) → After {L = g.row.L} c.raise.new.self (put_row c.args.row (line c.args.self.now))
+-- what is left once the row is in
+put : (g : Over) (c : goal.After-self-1 g)
+    → After {L = g.row.L} (record { nodes = c.relink.new.self.nodes; heads = c.relink.new.self.heads; places = with_item c.relink.new.self.places c.no.inside.0 (Some c.insert_reserved-key.result); tick = c.relink.new.self.tick; draws = c.relink.new.self.draws })
+    (put_row (record { left = c.args.after; number = c.args.at; timer = c.args.no }) (line c.args.self.now))
 put g c =
-    let r : Rows g.row.L = c.args.self.now in
+    let row : ArmedRow = record { left = c.args.after; number = c.args.at; timer = c.args.no } in
+    let h = c.requires.linked in
+    let r : Rows g.row.L = record c.args.self.now { draws = c.next_word.new.self } in
+    let linked : IsLinked r = record { some_level = h.some_level; tick = h.tick; chain = h.chain; in_order = h.in_order; counted = h.counted; room = h.room; each = h.each; placed = h.placed } in
     let key = c.insert_reserved-key.result in
     let made = c.insert_reserved-key.ensures in
-    let node : Node g.row.L = record { row = c.args.row; links = set (replicate g.row.L None) 0 c.link.result } in
-    let r1 : Rows g.row.L = record { nodes = c.insert_reserved-key.new.self; heads = r.heads; places = r.places } in
-    let some : 0 < length (replicate {A = Option ℕ} g.row.L None) = omega (arith, length-replicate {A = Option ℕ} g.row.L None, c.requires.linked.some_level) in
-    let link : get_or node.links 0 None ≡ c.link.result = get_or-set_same (replicate g.row.L None) 0 c.link.result None some in
-    let stop = c.before-before.ensures in
-    inserted r c.raise.new.self c.args.row key _ c.requires.linked stop
-    (inserted_by r r1 c.set_link.new.self _ c.raise.new.self node key _ (not_new r c.args.row key _ c.requires.linked stop (ap slot_of made.was_vacant)) made.was_vacant made.updates made.len made.capacity refl refl
-    (link ∙ c.link.ensures refl) (c.set_link.ensures.low refl) refl refl (ap (λ (row : Row). set c.set_link.new.self.places.items row.no (Some key)) c.row.view_is) c.raise.ensures)
-    c.requires.below c.requires.anew
+    let r1 : Rows g.row.L = record r { nodes = c.insert_reserved-key.new.self } in
+    let r2 : Rows g.row.L = c.relink.new.self in
+    let r' : Rows g.row.L = record r2 { places = with_item r2.places c.no.inside.0 (Some key) } in
+    inserted_row r r1 r2 r' _ key c.before-before.result c.links-links.result row linked
+    (ap (λ n. (let a : ArmedRow = record { left = n; number = c.args.at; timer = c.args.no } in a)) (left-new r.tick c.args.after h.tick c.ranges.after.fits))
+    c.before-before.ensures c.links-links.ensures refl made.was_vacant made.updates made.len made.capacity refl refl refl c.relink.ensures refl refl refl
+    (ap (λ n. set r2.places.items n (Some key)) c.no.view_is) c.requires.below c.requires.near c.requires.anew
 
 pub returns-clause-linked : goal.returns-clause-linked
 returns-clause-linked g c = (put g c).linked

@@ -1,10 +1,6 @@
-use Rattle.std.proofs.Common.{◌≡◌}
-use Rattle.timer_skip.specs.Links.{IsBefore}
-use Rattle.timer_skip.proofs.Chains.{Reached}
+use Rattle.timer_skip.specs.Firing.{armed_row}
+use Rattle.timer_skip.proofs.Levels.{Reached}
 use Rattle.timer_skip.proofs.rows.Rows.walk.Given as goal
 
 abbrev pub invariant-loop : goal.invariant-loop
-invariant-loop g l = record {
-  before : IsBefore l.self l.row l.last;
-  reached : l.level ≡ 0 → Reached l.self l.row l.last l.counter;
-}
+invariant-loop g l = Reached l.self l.level (armed_row l.self.tick l.row) l.last l.counter
