@@ -1,8 +1,7 @@
 ghost use Rattle.std.specs.Prelude.{◌≡◌, not};
 ghost use Rattle.rt_plain.specs.State.{is_nest_of_other};
-ghost use Rattle.cpus_lock.specs.Depths.{holder_of};
 
-use crate::{Nest, Nested};
+use cpus_lock::Nest;
 use rand_core::SeedableRng;
 use rand_core::utils::NextWord;
 use rand_pcg::Pcg32;
@@ -80,29 +79,4 @@ fn a_nest_answers_as_a_plain_list(rt: HostRuntime) -> Result<(), Fail> {
         assert_eq!(rt; holder, plain.last().map(|core| (*core, plain.len())));
     }
     Ok(())
-}
-
-#[derive(Drop)]
-struct Machine {
-    nest: Nest,
-}
-
-impl Nested for Machine {
-    ghost nest = { λ m. holder_of m.nest };
-
-    fn nest(&self) -> Option<(CoreNo, u8)> {
-        self.nest.holder()
-    }
-}
-
-fn told_nest<K: Nested>(value: &K) -> Option<(CoreNo, u8)> {
-    value.nest()
-}
-
-#[test]
-fn a_value_tells_its_nest(rt: HostRuntime) {
-    let mut machine = Machine { nest: Nest::new() };
-    assert_eq!(rt; told_nest(&machine), None);
-    assert_eq!(rt; machine.nest.enter(CoreNo(3)), Code::Ok);
-    assert_eq!(rt; told_nest(&machine), Some((CoreNo(3), 1)));
 }

@@ -1,0 +1,5 @@
+mod Turns
+mod Shares
+mod Joins
+mod Ends
+mod Gathered
