@@ -5,12 +5,14 @@ pub mod LawLemmas
 pub mod LineLemmas
 pub mod ChangeLemmas
 pub mod CurLemmas
+pub mod OwnedLemmas
 pub mod OwnerLemmas
 pub mod PassLemmas
 pub mod PutLemmas
 pub mod RaiseLemmas
 pub mod ReachLemmas
 pub mod StrongLemmas
+pub mod TakeLemmas
 pub mod TouchLemmas
 pub mod UrgencyLemmas
 pub mod WalkLemmas

@@ -137,7 +137,7 @@ wait_raises o p curs from t mutex at number s k now e owner there idle is =
     let from_is : from ≡ owner_in o mutex = owner ∙ ap (λ q. owner_in q mutex) e in
     rw (e, from_is, number_is) (raises o (wait_edit t mutex at o) curs (owner_in o mutex) (cur_in o t) s sound now (wait_strengthens o t mutex at sound there idle))
 
-fold_min : (a b : ℕ) (xs : List ℕ) → fold min (min a b) xs ≡ min (fold min a xs) b
+pub fold_min : (a b : ℕ) (xs : List ℕ) → fold min (min a b) xs ≡ min (fold min a xs) b
 fold_min a b [] = refl
 fold_min a b (x ∷ xs) = let swap : min (min a b) x ≡ min (min a x) b = omega arith in ap (λ c. fold min c xs) swap ∙ fold_min (min a x) b xs
 

@@ -2,7 +2,8 @@ ghost use Rattle.std.specs.Prelude.{◌≡◌, ◌≢◌, ◌<◌, ◌≤◌, []
 ghost use Rattle.std.specs.Option.{option_map};
 ghost use Rattle.rt_plain.specs.Ownership.{awaited_in, base_edit, ceiling_edit, changes, cur_in, first_in, kill_mutex_edit, kill_thread_edit, leave_edit, owner_in, passes_of, release_edit, take_edit, taken_of, wait_edit, waiters_in, with_member};
 ghost use Rattle.mutex_chain.specs.Graph.{IsOther, took_of, released_of, hold_of, pair_of};
-ghost use Rattle.mutex_chain.specs.Owners.{has_thread, has_mutex, ceiling_at};
+ghost use Rattle.mutex_chain.specs.Equations.{IsOnce};
+ghost use Rattle.mutex_chain.specs.Owners.{AreOwned, has_thread, has_mutex, ceiling_at};
 
 use crate::answers::{Released, Took};
 use crate::changes::Changes;
@@ -162,8 +163,12 @@ impl MutexGraph {
         ensures changes { out.new ≡ record out.old { changes = changes self.old self.new } }
     {
         steps.tick();
+        let number = self.ceiling(mutex).0 as u16;
+        let is_free = self.owners.holder(mutex).is_none();
         let took = self.owners.take(thread, mutex);
-        renew(&self.owners, &mut self.curs, &mut self.before, out);
+        self.owners.know_sound();
+        let from = is_free.then_some(thread);
+        strengthen(&self.owners, &mut self.curs, from, number, out);
         took
     }
 
@@ -298,6 +303,14 @@ impl MutexGraph {
         ensures { result ≡ has_mutex self.now mutex }
     {
         self.owners.ceiling(mutex).is_some()
+    }
+
+    /// Each mutex is owned once, and each awaited mutex has an owner. It does nothing when it runs.
+    pub fn know_owners(&self)
+        ensures once { IsOnce self.now }
+        ensures owned { AreOwned self.now }
+    {
+        let _ = &self.curs;
     }
 
     /// The current priority of a thread.
