@@ -3,6 +3,7 @@ pub mod HolderLemmas
 pub mod KeepLemmas
 pub mod LawLemmas
 pub mod LineLemmas
+pub mod ChainLemmas
 pub mod ChangeLemmas
 pub mod CurLemmas
 pub mod OwnedLemmas
