@@ -14,10 +14,10 @@ use Rattle.mutex_chain.proofs.ReachLemmas.{hits, hits_on, hits_end, reach_hits, 
 abbrev pub meets_in : ℕ → Graph → ℕ → ℕ → Bool
 meets_in k g t x = hits k (blocker_of g) (t ∷ []) x
 
-itself : (t : ℕ) → is_among (t ∷ []) t ≡ true
+pub itself : (t : ℕ) → is_among (t ∷ []) t ≡ true
 itself t = ap (λ b. b || false) (eq-eqb t t refl)
 
-only : (t x : ℕ) → is_among (t ∷ []) x ≡ true → t ≡ x
+pub only : (t x : ℕ) → is_among (t ∷ []) x ≡ true → t ≡ x
 only t x h = ⊎_elim (eqb-true t x) (λ e. absurd (false≢true e)) (or_cases (eqb t x) false h)
 
 member : (k : ℕ) (next : ℕ → Option ℕ) (ms : List ℕ) (x : ℕ) → is_among ms x ≡ true → hits k next ms x ≡ true
@@ -28,7 +28,7 @@ member (suc k) next ms x h = or_left (is_among ms x) (hits_on (λ v. hits k next
 go_on : (f : ℕ → Bool) (o : Option ℕ) (v : ℕ) → o ≡ Some v → f v ≡ true → hits_on f o ≡ true
 go_on f o v e h = ap (hits_on f) e ∙ h
 
-went_on : (f : ℕ → Bool) (o : Option ℕ) → hits_on f o ≡ true → (v : ℕ) × (o ≡ Some v) × (f v ≡ true)
+pub went_on : (f : ℕ → Bool) (o : Option ℕ) → hits_on f o ≡ true → (v : ℕ) × (o ≡ Some v) × (f v ≡ true)
 went_on f None h = absurd (false≢true h)
 went_on f (Some v) h = (v, refl, h)
 
@@ -41,7 +41,7 @@ more (suc k) g t x h = ⊎_elim (member (suc (suc k)) (blocker_of g) (t ∷ []) 
         let w = went_on (λ v. meets_in k g t v) (blocker_of g x) e in
         or_right (is_among (t ∷ []) x) (hits_on (λ v. meets_in (suc k) g t v) (blocker_of g x)) (go_on (λ v. meets_in (suc k) g t v) (blocker_of g x) w.0 w.1 (again w.0 w.2))
 
-filter_le : (p q : ℕ → Bool) (a n : ℕ) → ((x : ℕ) → p x ≡ true → q x ≡ true) → length (filter p (range_with_len a n)) ≤ length (filter q (range_with_len a n))
+pub filter_le : (p q : ℕ → Bool) (a n : ℕ) → ((x : ℕ) → p x ≡ true → q x ≡ true) → length (filter p (range_with_len a n)) ≤ length (filter q (range_with_len a n))
 filter_le p q a zero f = omega arith
 filter_le p q a (suc n) f = by_tests (p a) (q a) (f a) (filter_le p q (a + 1) n f)
   where
@@ -53,7 +53,7 @@ filter_le p q a (suc n) f = by_tests (p a) (q a) (f a) (filter_le p q (a + 1) n 
     by_tests false false e h = h
 
 -- a weaker test passes the same numbers of a range, or more of them
-grows : (p q : ℕ → Bool) (a n : ℕ) → ((x : ℕ) → p x ≡ true → q x ≡ true)
+pub grows : (p q : ℕ → Bool) (a n : ℕ) → ((x : ℕ) → p x ≡ true → q x ≡ true)
     → ((x : ℕ) → a ≤ x → x < a + n → q x ≡ p x) ⊎ (length (filter p (range_with_len a n)) < length (filter q (range_with_len a n)))
 grows p q a zero f = inl (λ x low high. absurd (omega arith))
 grows p q a (suc n) f = by_tests (p a) refl (q a) refl (grows p q (a + 1) n f) (filter_le p q (a + 1) n f)
@@ -119,14 +119,14 @@ many (suc k) g t h = by_before (many k g t h)
 abbrev pub reaches : Graph → ℕ → ℕ → Bool
 reaches g t x = meets_in (length g.blockers) g t x
 
-stable : (g : Graph) (t : ℕ) → t < length g.blockers → IsStable (length g.blockers) g t
+pub stable : (g : Graph) (t : ℕ) → t < length g.blockers → IsStable (length g.blockers) g t
 stable g t h =
     ⊎_elim (λ s. s) (λ lt. absurd (omega (arith, length-filter_range (meets_in (length g.blockers) g t) 0 (length g.blockers)))) (many (length g.blockers) g t h)
 
 pub reach_among : (g : Graph) (t x : ℕ) → t < length g.blockers → x < length g.blockers → is_among (reach g t) x ≡ reaches g t x
 reach_among g t x h k = ap (λ l. is_among l x) (reach_hits g t h) ∙ among_range (reaches g t) 0 (length g.blockers) x (omega arith) (omega arith)
 
-reaches_itself : (g : Graph) (t : ℕ) → reaches g t t ≡ true
+pub reaches_itself : (g : Graph) (t : ℕ) → reaches g t t ≡ true
 reaches_itself g t = member (length g.blockers) (blocker_of g) (t ∷ []) t (itself t)
 
 reach_within : (k : ℕ) (g : Graph) (t x : ℕ) → t < length g.blockers → meets_in k g t x ≡ true → x < length g.blockers
@@ -145,7 +145,7 @@ any_steps (suc k) g t x h r =
         ∙ or_right (is_among (t ∷ []) x) (hits_on (λ v. reaches g t v) (blocker_of g x)) (go_on (λ v. reaches g t v) (blocker_of g x) w.0 w.1 (again w.0 w.2))
 
 -- who meets a waiter meets the one that it waits for
-one_more : (k : ℕ) (g : Graph) (x t y : ℕ) → blocker_of g x ≡ Some t → meets_in k g x y ≡ true → meets_in (suc k) g t y ≡ true
+pub one_more : (k : ℕ) (g : Graph) (x t y : ℕ) → blocker_of g x ≡ Some t → meets_in k g x y ≡ true → meets_in (suc k) g t y ≡ true
 one_more zero g x t y e r =
     let same : x ≡ y = only x y r in
     or_right (is_among (t ∷ []) y) (hits_on (λ v. meets_in zero g t v) (blocker_of g y)) (go_on (λ v. meets_in zero g t v) (blocker_of g y) t (ap (blocker_of g) (sym same) ∙ e) (itself t))

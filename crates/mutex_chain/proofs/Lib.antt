@@ -3,14 +3,17 @@ pub mod HolderLemmas
 pub mod KeepLemmas
 pub mod LawLemmas
 pub mod LineLemmas
+pub mod ChainLemmas
 pub mod ChangeLemmas
 pub mod CurLemmas
+pub mod OwnedLemmas
 pub mod OwnerLemmas
 pub mod PassLemmas
 pub mod PutLemmas
 pub mod RaiseLemmas
 pub mod ReachLemmas
 pub mod StrongLemmas
+pub mod TakeLemmas
 pub mod TouchLemmas
 pub mod UrgencyLemmas
 pub mod WalkLemmas

@@ -27,7 +27,7 @@ rows_put o mutex w (v ∷ vs) e rs = by_test (stands_before WaitOrder.Prio w v) 
     by_test true r = (e, rs)
     by_test false r = (rs.0, r)
 
-row_thread : (o : Ownership) (mutex t : ℕ) (w : Waiter) → row_in o mutex t ≡ Some w → w.thread ≡ t
+pub row_thread : (o : Ownership) (mutex t : ℕ) (w : Waiter) → row_in o mutex t ≡ Some w → w.thread ≡ t
 row_thread o mutex t w e = by_wait (wait_of o t) e
   where
     by_wait : (wait : Option MutexWait) → wait_row o mutex t wait ≡ Some w → w.thread ≡ t

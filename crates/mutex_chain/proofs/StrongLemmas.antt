@@ -70,6 +70,16 @@ raises o p curs from number s k at e = rw at (record {
         let inside : x < length o.members = omega (arith, e.size) in
         inr (w.0, omega (arith, cur_at o x inside, w.1))
 
+awaits : (mutex at : ℕ) (m : Option Member) → is_there m ≡ true → awaited_by (option_map (with_wait (Some (record { mutex = mutex; number = at }))) m) ≡ Some mutex
+awaits mutex at None h = absurd (false≢true h)
+awaits mutex at (Some m) h = refl
+
+-- a thread that begins to wait waits for the owner of the mutex
+pub wait_blocker : (o : Ownership) (t mutex at : ℕ) → has_thread o t ≡ true → blocker_in (wait_edit t mutex at o) t ≡ owner_in o mutex
+wait_blocker o t mutex at there =
+    ap (λ m. option_and_then (owner_in o) (awaited_by m)) (get_or-set_same o.members t (option_map (with_wait (Some (record { mutex = mutex; number = at }))) (member_at o t)) None (thread_within o t there))
+    ∙ ap (option_and_then (owner_in o)) (awaits mutex at (member_at o t) there)
+
 -- a thread begins to wait
 wait_strengthens : (o : Ownership) (t mutex at : ℕ) → IsSound (wait_edit t mutex at o) → has_thread o t ≡ true → awaited_in o t ≡ None
     → Strengthens o (wait_edit t mutex at o) (owner_in o mutex) (cur_in o t)
@@ -95,12 +105,8 @@ wait_strengthens o t mutex at s there idle = record {
     elsewhere : (x : ℕ) → x ≢ t → member_at (wait_edit t mutex at o) x ≡ member_at o x
     elsewhere x ne = get_or-set_other o.members t x (option_map (with_wait (Some (record { mutex = mutex; number = at }))) (member_at o t)) None ne
 
-    awaits : (m : Option Member) → is_there m ≡ true → awaited_by (option_map (with_wait (Some (record { mutex = mutex; number = at }))) m) ≡ Some mutex
-    awaits None h = absurd (false≢true h)
-    awaits (Some m) h = refl
-
     waits : blocker_in (wait_edit t mutex at o) t ≡ owner_in o mutex
-    waits = ap (λ m. option_and_then (owner_in o) (awaited_by m)) here ∙ ap (option_and_then (owner_in o)) (awaits (member_at o t) there)
+    waits = wait_blocker o t mutex at there
 
     others : (x : ℕ) → x ≢ t → blocker_in (wait_edit t mutex at o) x ≡ blocker_in o x
     others x ne = ap (λ m. option_and_then (owner_in o) (awaited_by m)) (elsewhere x ne)
@@ -137,7 +143,7 @@ wait_raises o p curs from t mutex at number s k now e owner there idle is =
     let from_is : from ≡ owner_in o mutex = owner ∙ ap (λ q. owner_in q mutex) e in
     rw (e, from_is, number_is) (raises o (wait_edit t mutex at o) curs (owner_in o mutex) (cur_in o t) s sound now (wait_strengthens o t mutex at sound there idle))
 
-fold_min : (a b : ℕ) (xs : List ℕ) → fold min (min a b) xs ≡ min (fold min a xs) b
+pub fold_min : (a b : ℕ) (xs : List ℕ) → fold min (min a b) xs ≡ min (fold min a xs) b
 fold_min a b [] = refl
 fold_min a b (x ∷ xs) = let swap : min (min a b) x ≡ min (min a x) b = omega arith in ap (λ c. fold min c xs) swap ∙ fold_min (min a x) b xs
 

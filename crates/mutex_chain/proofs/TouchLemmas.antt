@@ -64,11 +64,11 @@ touches_member change t o = record {
     same x e = get_or-set_other o.members t x (option_map change (member_at o t)) None (other t x e)
 
 -- nothing changes
-touches_nothing : (touched : List ℕ) (o : Ownership) → Touches touched o o
+pub touches_nothing : (touched : List ℕ) (o : Ownership) → Touches touched o o
 touches_nothing touched o = record { size = refl; blockers = λ x e. inl refl; urgencies = λ x e. refl }
 
 -- a mutex that nobody owns has no row
-none_free : (m : ℕ) (hs : List Taken) → find (λ h. h.mutex == m) hs ≡ None → others m hs ≡ hs
+pub none_free : (m : ℕ) (hs : List Taken) → find (λ h. h.mutex == m) hs ≡ None → others m hs ≡ hs
 none_free m [] e = refl
 none_free m (h ∷ hs) e = by_test (h.mutex == m) refl e (none_free m hs)
   where
@@ -93,7 +93,7 @@ held_owned m hold x (h ∷ hs) = by_test (h.mutex == m) refl (held_owned m hold 
     by_test false e r = keep h h (h.owner == x) refl r
 
 -- another hold touches nobody
-touches_hold : (touched : List ℕ) (m hold : ℕ) (o : Ownership) → Touches touched o (with_taken_times m hold o)
+pub touches_hold : (touched : List ℕ) (m hold : ℕ) (o : Ownership) → Touches touched o (with_taken_times m hold o)
 touches_hold touched m hold o = record {
   size = refl;
   blockers = λ x e. inl (by_mutex (awaited_in o x));
@@ -349,7 +349,7 @@ touches_ceiling_at m c o once = record {
 pub touches_ceiling : (m c : ℕ) (o : Ownership) → AllPairs Apart o.taken → Touches (ceiling_touches o m) o (ceiling_edit m c o)
 touches_ceiling m c o once = touches_ceiling_at m (Some c) o once
 
-among_append : (ts us : List ℕ) (x : ℕ) → is_among (ts ++ us) x ≡ is_among ts x || is_among us x
+pub among_append : (ts us : List ℕ) (x : ℕ) → is_among (ts ++ us) x ≡ is_among ts x || is_among us x
 among_append [] us x = refl
 among_append (t ∷ ts) us x = ap (λ b. eqb t x || b) (among_append ts us x) ∙ by_test (eqb t x)
   where
@@ -367,7 +367,7 @@ touches_leaves (t ∷ ts) o =
     (touches_more (t ∷ []) (t ∷ ts) o (leave_edit t o) (λ x h. or_left (eqb t x) (is_among ts x) (alone t x h)) (touches_member (with_wait None) t o))
     (touches_more ts (t ∷ ts) (leave_edit t o) (leave_edits ts (leave_edit t o)) (λ x h. or_right (eqb t x) (is_among ts x) h) (touches_leaves ts (leave_edit t o)))
 
-leaves_taken : (ts : List ℕ) (o : Ownership) → (leave_edits ts o).taken ≡ o.taken
+pub leaves_taken : (ts : List ℕ) (o : Ownership) → (leave_edits ts o).taken ≡ o.taken
 leaves_taken [] o = refl
 leaves_taken (t ∷ ts) o = leaves_taken ts (leave_edit t o)
 

@@ -47,3 +47,7 @@ pub record AreHolders (taken : List Taken) (mutexes : ℕ) (holders : List (Opti
 -- the row of a mutex with another hold
 abbrev pub with_hold : ℕ → ℕ → Taken → Taken
 with_hold mutex hold h = if h.mutex == mutex then record { mutex = mutex; owner = h.owner; hold = hold } else h
+
+-- each awaited mutex has an owner
+abbrev pub AreOwned : Ownership → Type 0
+AreOwned o = (t mutex : ℕ) → awaited_in o t ≡ Some mutex → owner_in o mutex ≢ None

@@ -1,7 +1,9 @@
 -- Numbers that get more urgent along a chain of owners.
-use Rattle.std.specs.Prelude.{ℕ, ◌≡◌, ◌⊎◌, ◌<◌, ◌≤◌, suc, List, [], ◌∷◌, length, Option, Some, None, slice_index, nat_lt, if◌then◌else◌}
+use Rattle.std.specs.Prelude.{ℕ, ◌≡◌, ◌⊎◌, ◌<◌, ◌≤◌, suc, true, List, [], ◌∷◌, length, Option, Some, None, slice_index, nat_lt, if◌then◌else◌}
 use Rattle.std.specs.List.{insert, filter_map, range_with_len}
-use Rattle.rt_plain.specs.Ownership.{Ownership, CurChange, member_urgency, cur_in}
+use Rattle.rt_plain.specs.State.{is_among}
+use Rattle.rt_plain.specs.Priority.{reach}
+use Rattle.rt_plain.specs.Ownership.{Ownership, CurChange, member_urgency, graph_in, cur_in}
 use Rattle.mutex_chain.specs.Owners.{blocker_in}
 use Rattle.mutex_chain.specs.Graph.{listed_at}
 
@@ -40,3 +42,8 @@ pub record Strengthens (o p : Ownership) (from : Option ℕ) (number : ℕ) : Ty
   pub itself : (t : ℕ) → t < length o.members → (member_urgency o t ≤ member_urgency p t) ⊎ ((from ≡ Some t) × (number ≤ member_urgency p t))
   pub reached : (t : ℕ) → from ≡ Some t → (t < length o.members)
       × ((member_urgency p t ≤ number) ⊎ ((x : ℕ) × (blocker_in p x ≡ Some t) × (cur_in o x ≤ number)))
+
+-- the chain of a thread leads to another one, if there is one
+abbrev pub LeadsTo : Ownership → ℕ → Option ℕ → Type 0
+LeadsTo o u None = Unit {0}
+LeadsTo o u (Some t) = is_among (reach (graph_in o) t) u ≡ true

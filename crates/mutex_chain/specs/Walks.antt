@@ -2,7 +2,7 @@
 use Rattle.std.specs.Prelude.{ℕ, ◌≡◌, zero, suc, min, Bool, false, ◌||◌, List, [], ◌∷◌, length, Option, Some, None, map, slice_set, slice_index, ◌==◌}
 use Rattle.std.specs.List.{range_with_len}
 use Rattle.rt_plain.specs.Ownership.{Ownership, member_urgency, cur_in}
-use Rattle.mutex_chain.specs.Owners.{IsSound}
+use Rattle.mutex_chain.specs.Owners.{IsSound, AreOwned}
 
 -- the numbers with a less urgent one replaced by an urgency
 abbrev pub lowered : ℕ → ℕ → List ℕ → List ℕ
@@ -39,9 +39,10 @@ abbrev pub meets : ℕ → (ℕ → Option ℕ) → ℕ → ℕ → Bool
 meets zero next t u = false
 meets (suc n) next t u = meets_on (λ v. meets n next v u) u (next t)
 
--- sound tables with the current priorities of all threads, and as many places for those before an edit
+-- sound tables, in which awaited mutexes have owners, with the current priorities of all threads, and as many places for those before an edit
 pub record IsCurrent (o : Ownership) (numbers others : List ℕ) : Type 0 where
   pub sound : IsSound o
+  pub owned : AreOwned o
   pub curs : numbers ≡ curs_of o
   pub places : length numbers ≡ length o.members
   pub before : length others ≡ length o.members

@@ -1,8 +1,10 @@
-ghost use Rattle.std.specs.Prelude.{◌≡◌, ◌≢◌, ◌<◌, ◌≤◌, [], None, Some, false, length, map, replicate, slice_set, IfOk, IfSome, IsTrue};
+ghost use Rattle.std.specs.Prelude.{◌≡◌, ◌≢◌, ◌+◌, ◌*◌, ◌<◌, ◌≤◌, [], ◌∷◌, None, Some, false, length, map, replicate, slice_set, IfOk, IfSome, IsTrue};
 ghost use Rattle.std.specs.Option.{option_map};
-ghost use Rattle.rt_plain.specs.Ownership.{awaited_in, base_edit, ceiling_edit, changes, cur_in, first_in, kill_mutex_edit, kill_thread_edit, leave_edit, owner_in, passes_of, release_edit, take_edit, taken_of, wait_edit, waiters_in, with_member};
+ghost use Rattle.rt_plain.specs.Ownership.{awaited_in, base_edit, base_of, ceiling_edit, changes, cur_in, first_in, kill_mutex_edit, kill_thread_edit, leave_edit, member_at, owner_in, passes_of, release_edit, take_edit, taken_of, wait_edit, waiters_in, with_member};
+ghost use Rattle.rt_plain.specs.Weight.{ceiling_touches, edit_size};
 ghost use Rattle.mutex_chain.specs.Graph.{IsOther, took_of, released_of, hold_of, pair_of};
-ghost use Rattle.mutex_chain.specs.Owners.{has_thread, has_mutex, ceiling_at};
+ghost use Rattle.mutex_chain.specs.Equations.{IsOnce};
+ghost use Rattle.mutex_chain.specs.Owners.{AreOwned, has_thread, has_mutex, ceiling_at};
 
 use crate::answers::{Released, Took};
 use crate::changes::Changes;
@@ -30,7 +32,9 @@ use std::sync::ledger::Ledger;
 /// after it and whose current priority it changed, in thread order, with both numbers; what the list
 /// held before is dropped. It has to have been made for at least as many threads as the graph.
 ///
-/// Only `new` takes memory. Each edit raises `steps`; by how much is not said yet.
+/// Only `new` takes memory. Each edit raises `steps`: `wait`, and a base or a ceiling that is at least as
+/// urgent as the one before, by at most 8 times the size of the edit (the weights of the chains of the
+/// threads that it touches, before and after it, and 1). Of the other edits nothing is said yet.
 #[derive(Drop)]
 pub struct MutexGraph {
     owners: Owners,
@@ -100,6 +104,8 @@ impl MutexGraph {
         ensures threads { length self.new.members ≡ length self.old.members }
         ensures mutexes { length self.new.ceilings ≡ length self.old.ceilings }
         ensures changes { out.new ≡ record out.old { changes = changes self.old self.new } }
+        ensures cost { base ≤ base_of (member_at self.old thread) →
+            steps.new ≤ steps.old + 8 * edit_size self.old self.new (thread ∷ []) }
     {
         steps.tick();
         let old = self.owners.base_of(thread);
@@ -110,7 +116,14 @@ impl MutexGraph {
             return;
         }
         self.owners.know_sound();
-        strengthen(&self.owners, &mut self.curs, Some(thread), number, out);
+        strengthen(
+            &self.owners,
+            &mut self.curs,
+            Some(thread),
+            number,
+            out,
+            steps,
+        );
     }
 
     /// Gives a mutex another ceiling. The answer is the old one.
@@ -128,6 +141,8 @@ impl MutexGraph {
         ensures threads { length self.new.members ≡ length self.old.members }
         ensures mutexes { length self.new.ceilings ≡ length self.old.ceilings }
         ensures changes { out.new ≡ record out.old { changes = changes self.old self.new } }
+        ensures cost { ceiling ≤ result →
+            steps.new ≤ steps.old + 8 * edit_size self.old self.new (ceiling_touches self.old mutex) }
     {
         steps.tick();
         let old = self.ceiling(mutex);
@@ -137,8 +152,16 @@ impl MutexGraph {
             return old;
         }
         self.owners.know_sound();
+        steps.tick();
         let owner = self.owners.holder(mutex);
-        strengthen(&self.owners, &mut self.curs, owner, ceiling.0 as u16, out);
+        strengthen(
+            &self.owners,
+            &mut self.curs,
+            owner,
+            ceiling.0 as u16,
+            out,
+            steps,
+        );
         old
     }
 
@@ -162,8 +185,12 @@ impl MutexGraph {
         ensures changes { out.new ≡ record out.old { changes = changes self.old self.new } }
     {
         steps.tick();
+        let number = self.ceiling(mutex).0 as u16;
+        let is_free = self.owners.holder(mutex).is_none();
         let took = self.owners.take(thread, mutex);
-        renew(&self.owners, &mut self.curs, &mut self.before, out);
+        self.owners.know_sound();
+        let from = is_free.then_some(thread);
+        strengthen(&self.owners, &mut self.curs, from, number, out, steps);
         took
     }
 
@@ -185,13 +212,15 @@ impl MutexGraph {
         ensures threads { length self.new.members ≡ length self.old.members }
         ensures mutexes { length self.new.ceilings ≡ length self.old.ceilings }
         ensures changes { out.new ≡ record out.old { changes = changes self.old self.new } }
+        ensures cost { steps.new ≤ steps.old + 8 * edit_size self.old self.new (thread ∷ []) }
     {
         steps.tick();
         let number = self.curs[thread.0 as usize];
         self.owners.set_wait(thread, Some(WaitRow { mutex, at }));
         self.owners.know_sound();
+        steps.tick();
         let owner = self.owners.holder(mutex);
-        strengthen(&self.owners, &mut self.curs, owner, number, out);
+        strengthen(&self.owners, &mut self.curs, owner, number, out, steps);
     }
 
     /// A thread that waits on a mutex waits no more.
@@ -298,6 +327,14 @@ impl MutexGraph {
         ensures { result ≡ has_mutex self.now mutex }
     {
         self.owners.ceiling(mutex).is_some()
+    }
+
+    /// Each mutex is owned once, and each awaited mutex has an owner. It does nothing when it runs.
+    pub fn know_owners(&self)
+        ensures once { IsOnce self.now }
+        ensures owned { AreOwned self.now }
+    {
+        let _ = &self.curs;
     }
 
     /// The current priority of a thread.

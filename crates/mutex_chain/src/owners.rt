@@ -1,4 +1,4 @@
-ghost use Rattle.std.specs.Prelude.{ℕ, ◌≡◌, ◌<◌, ◌≤◌, [], None, Some, length, map, not, ◌==◌, filter, if◌then◌else◌, replicate, slice_set, vec_capacity, IfOk, IfSome, IsTrue};
+ghost use Rattle.std.specs.Prelude.{ℕ, ◌≡◌, ◌+◌, ◌<◌, ◌≤◌, [], None, Some, length, map, not, ◌==◌, filter, if◌then◌else◌, replicate, slice_set, vec_capacity, IfOk, IfSome, IsTrue};
 ghost use Rattle.std.specs.List.{find};
 ghost use Rattle.std.specs.Option.{is_some, option_map};
 ghost use Rattle.rt_plain.specs.Ownership.{base_of, member_at, taken_of, member_urgency, owned_in, owner_in, with_member, base_edit, member_edit, with_wait, with_mutex_free, with_mutex_got, with_taken_times, wait_of, take_edit, pass_edit_to, first_in, release_edit};
@@ -9,9 +9,10 @@ ghost use Rattle.mutex_chain.specs.Owners.{IsSound, has_thread, has_mutex, ceili
 use crate::answers::{Released, Took};
 use crate::rows::{MemberRow, TakenRow, WaitRow};
 use crate::waiter::Waiter;
-use rt_base::{ObjNo, Prio, ThreadNo};
+use rt_base::{ObjNo, Prio, Steps, ThreadNo};
 use std::alloc::{AllocError, Global};
 use std::marker::Model;
+use std::sync::ledger::Ledger;
 
 // The threads and the mutexes that are there, by number, and who owns what, last got first. `holders` has
 // the owner of each mutex once more, so that one look finds it.
@@ -120,6 +121,22 @@ impl Owners {
     {
         let wait = self.member(thread)?.wait?;
         self.holder(wait.mutex)
+    }
+
+    // The same, with the reads of the two rows counted.
+    pub fn counted_blocker<L: Ledger>(
+        &self,
+        thread: ThreadNo,
+        steps: &mut Steps<L>,
+    ) -> Option<ThreadNo>
+        requires { thread < length self.now.members }
+        ensures owner { result ≡ blocker_in self.now thread }
+        ensures within { IfSome result (λ owner. owner < length self.now.members) }
+        ensures count { steps.new ≡ steps.old + 2 }
+    {
+        steps.tick();
+        steps.tick();
+        self.blocker(thread)
     }
 
     // The owner of a mutex.

@@ -1,23 +1,27 @@
-ghost use Rattle.std.specs.Prelude.{◌≡◌, ◌≤◌, length};
+ghost use Rattle.std.specs.Prelude.{ℕ, ◌≡◌, ◌+◌, ◌*◌, ◌<◌, ◌≤◌, List, None, true, length};
+ghost use Rattle.rt_plain.specs.State.{is_among};
+ghost use Rattle.rt_plain.specs.Weight.{moment_weight};
 ghost use Rattle.rt_plain.specs.Ownership.{Ownership, changes};
 ghost use Rattle.mutex_chain.specs.Graph.{Keeps};
 ghost use Rattle.mutex_chain.specs.Owners.{IsSound};
-ghost use Rattle.mutex_chain.specs.Raising.{IsRaising};
+ghost use Rattle.mutex_chain.specs.Raising.{IsRaising, LeadsTo};
 ghost use Rattle.mutex_chain.specs.Walks.{curs_of};
 
 use crate::changes::Changes;
 use crate::curs::change_of;
 use crate::owners::Owners;
-use rt_base::ThreadNo;
+use rt_base::{Steps, ThreadNo};
+use std::sync::ledger::Ledger;
 
 // Carries a number from a thread along its chain of owners, up to the first that is as urgent already, and
-// lists those that it made more urgent.
-pub fn strengthen(
+// lists those that it made more urgent. It counts four reads for each of these, and one where it stops.
+pub fn strengthen<L: Ledger>(
     owners: &Owners,
     curs: &mut Vec<u16>,
     from: Option<ThreadNo>,
     number: u16,
     out: &mut Changes,
+    steps: &mut Steps<L>,
 )
     requires raising { IsRaising owners.now curs.old.items from number }
     requires sound { IsSound owners.now }
@@ -26,19 +30,24 @@ pub fn strengthen(
     ensures places { length curs.new.items ≡ length owners.now.members }
     ensures changes { (o : Ownership) → IsSound o → curs.old.items ≡ curs_of o → Keeps o owners.now →
         out.new ≡ record out.old { changes = changes o owners.now } }
+    ensures nobody { from ≡ None → steps.new ≡ steps.old }
+    ensures cost { (touched : List ℕ) (u : ℕ) → is_among touched u ≡ true → u < length owners.now.members →
+        LeadsTo owners.now u from → steps.new ≤ steps.old + (4 * moment_weight owners.now touched + 1) }
 {
     out.clear();
     let mut at = from;
     while let Some(thread) = at {
         let place = thread.0 as usize;
+        steps.tick();
         let old = curs[place];
         if old <= number {
             break;
         }
         curs[place] = number;
+        steps.tick();
         if let Some(change) = change_of(owners, thread, old, number) {
             out.put(change);
         }
-        at = owners.blocker(thread);
+        at = owners.counted_blocker(thread, steps);
     }
 }

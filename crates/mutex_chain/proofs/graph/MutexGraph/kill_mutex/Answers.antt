@@ -1,7 +1,8 @@
-use Rattle.std.proofs.Common.{ap}
-use Rattle.rt_plain.specs.Ownership.{Ownership}
-use Rattle.mutex_chain.specs.Graph.{Keeps}
+use Rattle.std.proofs.Common.{◌≡◌, ◌∙◌, ap}
+use Rattle.rt_plain.specs.Ownership.{Ownership, waiters_in}
+use Rattle.mutex_chain.specs.Graph.{Keeps, WokenList}
 use Rattle.mutex_chain.proofs.KeepLemmas.{keeps_leaves, keeps_same, keeps_trans}
+use Rattle.mutex_chain.proofs.OwnedLemmas.{owned_mutex_end}
 use Rattle.mutex_chain.proofs.graph.MutexGraph.kill_mutex.Goals as goal
 
 pub returns-clause-changes : goal.returns-clause-changes
@@ -14,3 +15,15 @@ returns-clause-changes g c =
     let second : Keeps free left = rw c.leave_all.ensures.edits (keeps_leaves c.as_slice.result.now free) in
     let third : Keeps left new = keeps_same left new (ap (λ (o : Ownership). o.members) c.set_ceiling.ensures) in
     rw (← c.self.view_is) (c.renew.ensures.changes old c.self.invariant.sound c.self.invariant.curs (keeps_trans old left new (keeps_trans old free left first second) third))
+
+pub invariant_of-self : goal.invariant_of-self
+invariant_of-self g c =
+    let o = c.self.inside.owners in
+    let line : c.as_slice.result.now ≡ waiters_in c.self.inside.owners c.args.mutex = c.as_slice.ensures ∙ ap (λ (w : WokenList). w.woken) c.list_waiters.ensures.waiters in
+    record {
+      sound = c.renew.ensures.sound;
+      owned = rw (c.set_ceiling.ensures, c.leave_all.ensures.edits, line, c.free.ensures) (owned_mutex_end o c.args.mutex c.self.invariant.owned);
+      curs = c.renew.ensures.curs;
+      places = c.renew.ensures.places;
+      before = c.renew.ensures.before;
+    }

@@ -1,6 +1,11 @@
-use Rattle.std.proofs.Common.{arith, ◌≡◌, ◌≤◌, true}
-use Rattle.rt_plain.specs.Ownership.{base_of, member_at}
+use Rattle.std.proofs.Common.{arith, ◌≡◌, ◌<◌, ◌≤◌, ◌∙◌, ap, length, true, [], ◌∷◌}
+use Rattle.std.specs.Option.{option_map}
+use Rattle.std.proofs.Math.ListN.{length-set}
+use Rattle.rt_plain.specs.Ownership.{Ownership, base_of, member_at, with_base}
 use Rattle.mutex_chain.specs.Owners.{has_thread}
+use Rattle.mutex_chain.proofs.ChainLemmas.{leads_here}
+use Rattle.mutex_chain.proofs.ChangeLemmas.{thread_within}
+use Rattle.mutex_chain.proofs.LawLemmas.{itself}
 use Rattle.mutex_chain.proofs.StrongLemmas.{base_raises}
 use Rattle.mutex_chain.proofs.graph.MutexGraph.set_base.Goals as goal
 
@@ -10,3 +15,12 @@ strengthen-requires-clause-raising g c =
     let there : has_thread c.self.inside.owners c.args.thread ≡ true = rw c.self.view_is c.requires.there in
     let less : c.args.base ≤ base_of (member_at c.self.inside.owners c.args.thread) = omega (arith, c.if-number-old.false, c.base.view_is, c.base_of-old.ensures) in
     rw c.base.view_is (base_raises o c.set_base.new.self c.self.inside.curs.items c.args.thread c.args.base c.self.invariant.sound c.know_sound.ensures c.self.invariant.curs c.set_base.ensures there less)
+
+pub returns-clause-cost : goal.returns-clause-cost
+returns-clause-cost g c = λ less.
+    let there : has_thread c.self.inside.owners c.args.thread ≡ true = rw c.self.view_is c.requires.there in
+    let size : length c.set_base.new.self.members ≡ length c.self.inside.owners.members =
+    ap (λ (q : Ownership). length q.members) c.set_base.ensures ∙ length-set c.self.inside.owners.members c.args.thread (option_map (with_base c.args.base) (member_at c.self.inside.owners c.args.thread)) in
+    let inside : c.args.thread < length c.set_base.new.self.members = omega (arith, thread_within c.self.inside.owners c.args.thread there) in
+    let cost = c.strengthen.ensures.cost (c.args.thread ∷ []) c.args.thread (itself c.args.thread) inside (leads_here c.set_base.new.self c.args.thread inside) in
+    omega (arith, cost, c.tick.ensures)

@@ -1,5 +1,9 @@
-use Rattle.std.proofs.Common.{arith, ◌≡◌, ◌≤◌, sym, Some}
+use Rattle.std.proofs.Common.{arith, ◌≡◌, ◌≤◌, ◌∙◌, sym, ap, Some}
+use Rattle.rt_plain.specs.Weight.{ceiling_touches}
+use Rattle.std.specs.Option.{option_to_list}
+use Rattle.rt_plain.specs.Ownership.{Ownership, owner_in}
 use Rattle.mutex_chain.specs.Owners.{ceiling_at}
+use Rattle.mutex_chain.proofs.ChainLemmas.{from_cost}
 use Rattle.mutex_chain.proofs.StrongLemmas.{ceiling_raises}
 use Rattle.mutex_chain.proofs.graph.MutexGraph.set_ceiling.Goals as goal
 
@@ -9,3 +13,10 @@ strengthen-requires-clause-raising g c =
     let at : ceiling_at c.self.inside.owners c.args.mutex ≡ Some c.ceiling-old.result = rw c.self.view_is (sym c.ceiling-old.ensures) in
     let less : c.args.ceiling ≤ c.ceiling-old.result = omega (arith, c.if-ceiling-old.false, c.ceiling.view_is, c.old.view_is) in
     rw c.ceiling.view_is (ceiling_raises o c.set_ceiling.new.self c.self.inside.curs.items c.holder-owner.result c.args.mutex c.args.ceiling c.ceiling-old.result c.self.invariant.sound c.know_sound.ensures c.self.invariant.curs c.set_ceiling.ensures c.holder-owner.ensures.owner at less)
+
+pub returns-clause-cost : goal.returns-clause-cost
+returns-clause-cost g c = λ less.
+    let touches : ceiling_touches c.args.self.now c.args.mutex ≡ option_to_list c.holder-owner.result =
+    sym (ap option_to_list (c.holder-owner.ensures.owner ∙ ap (λ (q : Ownership). owner_in q c.args.mutex) c.set_ceiling.ensures ∙ ap (λ (q : Ownership). owner_in q c.args.mutex) c.self.view_is)) in
+    let cost = from_cost c.args.self.now c.set_ceiling.new.self c.holder-owner.result c.tick-2.new.self c.strengthen.new.steps (λ t e. rw e at c.holder-owner.ensures.within) c.strengthen.ensures.nobody c.strengthen.ensures.cost in
+    rw touches (omega (arith, cost, c.tick.ensures, c.tick-2.ensures))

@@ -1,0 +1,28 @@
+use Rattle.std.proofs.Common.{◌≡◌, ◌∙◌, sym, ap, true, Some, None, cond, not}
+use Rattle.std.specs.Option.{is_some}
+use Rattle.rt_plain.specs.Ownership.{owner_in}
+use Rattle.mutex_chain.specs.Owners.{has_thread, ceiling_at}
+use Rattle.mutex_chain.proofs.ChangeLemmas.{thread_within}
+use Rattle.mutex_chain.proofs.OwnedLemmas.{owned_take}
+use Rattle.mutex_chain.proofs.TakeLemmas.{got_by, take_raises}
+use Rattle.mutex_chain.proofs.graph.MutexGraph.take.Goals as goal
+
+pub strengthen-requires-clause-raising : goal.strengthen-requires-clause-raising
+strengthen-requires-clause-raising g c =
+    let o = c.self.inside.owners in
+    let there : has_thread c.self.inside.owners c.args.thread ≡ true = rw c.self.view_is c.requires.thread in
+    let at : ceiling_at c.self.inside.owners c.args.mutex ≡ Some c.ceiling.result = rw c.self.view_is (sym c.ceiling.ensures) in
+    let free : is_some (owner_in c.self.inside.owners c.args.mutex) ≡ not c.is_none-is_free.result = sym (ap (λ r. is_some r) c.holder.ensures.owner) ∙ c.is_none-is_free.ensures in
+    let from : c.then_some-from.result ≡ cond (is_some (owner_in c.self.inside.owners c.args.mutex)) None (Some c.args.thread) =
+    c.then_some-from.ensures ∙ got_by c.is_none-is_free.result (owner_in o c.args.mutex) c.args.thread free in
+    rw c.number.view_is (take_raises o c.take-took.new.self c.self.inside.curs.items c.then_some-from.result c.args.thread c.args.mutex c.ceiling.result c.self.invariant.sound c.know_sound.ensures c.self.invariant.owned
+    c.self.invariant.curs c.take-took.ensures.edit (thread_within o c.args.thread there) at from)
+
+pub invariant_of-self : goal.invariant_of-self
+invariant_of-self g c = record {
+  sound = c.know_sound.ensures;
+  owned = rw c.take-took.ensures.edit (owned_take c.self.inside.owners c.args.thread c.args.mutex c.self.invariant.owned);
+  curs = c.strengthen.ensures.curs;
+  places = c.strengthen.ensures.places;
+  before = c.self.invariant.before ∙ sym c.take-took.ensures.threads;
+}
