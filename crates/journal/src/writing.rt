@@ -24,7 +24,6 @@ pub(crate) fn put_number(out: &mut List<u8>, n: u64) -> Result<(), AllocError>
     put(out, digits.format(n).as_bytes())
 }
 
-#[tactic(auto, using(crate::proofs::CodeLemmas::code-zero, crate::proofs::CodeLemmas::code-minus))]
 fn put_code(out: &mut List<u8>, code: Code) -> Result<(), AllocError>
     ensures { OnOk result (out.new ≡ out.old ++ code_text code) }
 {
