@@ -5,7 +5,7 @@ ghost use Rattle.board_show.specs.Writing.{call_text, statement_text};
 use crate::fields::{
     byte, class, code, half, how, keep, mode, name, number, order, prio, run, text, wait, what,
 };
-use crate::writing::put_words;
+use crate::writing::{all0, all1, all2, all3, all5};
 use board_text::statement_rows;
 use rt_base::List;
 use rt_plain::{Call, Stmt};
@@ -16,7 +16,7 @@ macro_rules! put_call {
         plain {$($plain:tt)*}
         calls {$($kind:ident $word:literal $all:ident ($($value:tt)*) {$($place:literal $field:ident : $writer:ident($($arg:expr),*))*})*}) => {
         match $call {
-            $($($value)* => put_words($out, $word, &[$($writer($field)),*]),)*
+            $($($value)* => $all($out, $word $(, $writer($field))*),)*
         }
     };
 }
@@ -34,7 +34,7 @@ macro_rules! put_statement {
         plain {$($kind:ident $word:literal $all:ident ($($value:tt)*) {$($place:literal $field:ident : $writer:ident($($arg:expr),*))*})*}
         calls {$($call:tt)*}) => {
         match $statement {
-            $($($value)* => put_words($out, $word, &[$($writer($field)),*]),)*
+            $($($value)* => $all($out, $word $(, $writer($field))*),)*
             Stmt::Do(call) => put_call($out, call),
         }
     };

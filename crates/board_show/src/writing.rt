@@ -1,5 +1,5 @@
 //! Writing words and whole lines behind what is there.
-ghost use Rattle.std.specs.Prelude.{◌≡◌, ◌++◌, ◌∷◌, ◌<◌, OnOk, false, map, codes};
+ghost use Rattle.std.specs.Prelude.{◌≡◌, ◌++◌, [], ◌∷◌, ◌<◌, OnOk, false, map, codes};
 ghost use Rattle.std.specs.Fmt.{decimal, digit_glyph};
 ghost use Rattle.std.specs.List.{flat_map};
 ghost use Rattle.rt_plain.specs.Words.{words};
@@ -117,6 +117,60 @@ pub(crate) fn put_words(
 {
     put(out, first)?;
     put_others(out, others)
+}
+
+// A line's word alone.
+pub(crate) fn all0(out: &mut List<u8>, first: &[u8]) -> Result<(), AllocError>
+    ensures { OnOk result (out.new ≡ out.old ++ words (first.now ∷ [])) }
+{
+    put_words(out, first, &[])
+}
+
+// A line's word and one field.
+pub(crate) fn all1(out: &mut List<u8>, first: &[u8], a: Shown<'_>) -> Result<(), AllocError>
+    ensures { OnOk result (out.new ≡ out.old ++ words (first.now ∷ shown a.entry ∷ [])) }
+{
+    put_words(out, first, &[a])
+}
+
+// A line's word and two fields.
+pub(crate) fn all2(
+    out: &mut List<u8>,
+    first: &[u8],
+    a: Shown<'_>,
+    b: Shown<'_>,
+) -> Result<(), AllocError>
+    ensures { OnOk result (out.new ≡ out.old ++ words (first.now ∷ shown a.entry ∷ shown b.entry ∷ [])) }
+{
+    put_words(out, first, &[a, b])
+}
+
+// A line's word and three fields.
+pub(crate) fn all3(
+    out: &mut List<u8>,
+    first: &[u8],
+    a: Shown<'_>,
+    b: Shown<'_>,
+    c: Shown<'_>,
+) -> Result<(), AllocError>
+    ensures { OnOk result (out.new ≡ out.old ++ words (first.now ∷ shown a.entry ∷ shown b.entry ∷ shown c.entry ∷ [])) }
+{
+    put_words(out, first, &[a, b, c])
+}
+
+// A line's word and five fields.
+pub(crate) fn all5(
+    out: &mut List<u8>,
+    first: &[u8],
+    a: Shown<'_>,
+    b: Shown<'_>,
+    c: Shown<'_>,
+    d: Shown<'_>,
+    e: Shown<'_>,
+) -> Result<(), AllocError>
+    ensures { OnOk result (out.new ≡ out.old ++ words (first.now ∷ shown a.entry ∷ shown b.entry ∷ shown c.entry ∷ shown d.entry ∷ shown e.entry ∷ [])) }
+{
+    put_words(out, first, &[a, b, c, d, e])
 }
 
 // A line of these words, and its newline.

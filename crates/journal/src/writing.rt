@@ -1,11 +1,11 @@
-ghost use Rattle.std.specs.Prelude.{◌≡◌, ◌++◌, ◌<◌, OnOk, false};
+ghost use Rattle.std.specs.Prelude.{◌≡◌, ◌++◌, ◌<◌, [], ◌∷◌, OnOk, false, codes, if◌then◌else◌};
 ghost use Rattle.std.specs.Fmt.{decimal, digit_glyph};
 ghost use Rattle.std.specs.List.{flat_map};
-ghost use Rattle.rt_plain.specs.Words.{code_text, sleep_text};
+ghost use Rattle.rt_plain.specs.Words.{words, code_text, sleep_text};
 ghost use Rattle.rt_plain.specs.Texts.{escape_of, quoted_text, code_or_wait, woke_text, fired_text, line_text, indented_line};
 
 use itoa::Buffer;
-use rt_base::{Code, List, Sleep};
+use rt_base::{Code, List, Name, Prio, Sleep, Text};
 use rt_plain::{Fired, Line, Woke};
 use std::alloc::AllocError;
 
@@ -124,114 +124,147 @@ fn put_quoted(out: &mut List<u8>, text: &[u8]) -> Result<(), AllocError>
     put(out, b"\"")
 }
 
+// The words of a line that names one object.
+fn put_named(out: &mut List<u8>, word: &[u8], name: &Name) -> Result<(), AllocError>
+    ensures { OnOk result (out.new ≡ out.old ++ words (word.now ∷ name.now ∷ [])) }
+{
+    put(out, word)?;
+    put(out, b" ")?;
+    put(out, name.bytes())
+}
+
+fn put_out(out: &mut List<u8>, name: &Name, head: bool) -> Result<(), AllocError>
+    ensures { OnOk result (out.new ≡ out.old ++ words (codes "out" ∷ name.now ∷ (if head then codes "head" else codes "tail") ∷ [])) }
+{
+    put_named(out, b"out", name)?;
+    if head {
+        put(out, b" head")
+    } else {
+        put(out, b" tail")
+    }
+}
+
+// The words of a statement that was done, or done again.
+fn put_stated(
+    out: &mut List<u8>,
+    word: &[u8],
+    name: &Name,
+    k: u16,
+    answer: Option<Code>,
+) -> Result<(), AllocError>
+    ensures { OnOk result (out.new ≡ out.old ++ words (word.now ∷ name.now ∷ decimal k ∷ code_or_wait answer ∷ [])) }
+{
+    put_named(out, word, name)?;
+    put(out, b" ")?;
+    put_number(out, k as u64)?;
+    put(out, b" ")?;
+    put_answer(out, answer)
+}
+
+fn put_wake(out: &mut List<u8>, name: &Name, woke: Woke) -> Result<(), AllocError>
+    ensures { OnOk result (out.new ≡ out.old ++ words (codes "wake" ∷ name.now ∷ woke_text woke ∷ [])) }
+{
+    put_named(out, b"wake", name)?;
+    put(out, b" ")?;
+    put_woke(out, woke)
+}
+
+fn put_change(out: &mut List<u8>, name: &Name, before: Prio, after: Prio) -> Result<(), AllocError>
+    ensures { OnOk result (out.new ≡ out.old ++ words (codes "prio" ∷ name.now ∷ (decimal before ++ codes ">" ++ decimal after) ∷ [])) }
+{
+    put_named(out, b"prio", name)?;
+    put(out, b" ")?;
+    put_number(out, before.0 as u64)?;
+    put(out, b">")?;
+    put_number(out, after.0 as u64)
+}
+
+fn put_fire(out: &mut List<u8>, name: &Name, fired: Fired) -> Result<(), AllocError>
+    ensures { OnOk result (out.new ≡ out.old ++ words (codes "fire" ∷ name.now ∷ fired_text fired ∷ [])) }
+{
+    put_named(out, b"fire", name)?;
+    put(out, b" ")?;
+    put_fired(out, fired)
+}
+
+// The words of a line on bytes that a device got or sent.
+fn put_moved(out: &mut List<u8>, word: &[u8], name: &Name, text: &Text) -> Result<(), AllocError>
+    ensures { OnOk result (out.new ≡ out.old ++ words (word.now ∷ name.now ∷ quoted_text text.now ∷ [])) }
+{
+    put_named(out, word, name)?;
+    put(out, b" ")?;
+    put_quoted(out, text.bytes())
+}
+
+fn put_received(out: &mut List<u8>, name: &Name, text: &Text, lost: u8) -> Result<(), AllocError>
+    ensures { OnOk result (out.new ≡ out.old ++ words (codes "rx" ∷ name.now ∷ quoted_text text.now ∷ decimal lost ∷ [])) }
+{
+    put_moved(out, b"rx", name, text)?;
+    put(out, b" ")?;
+    put_number(out, lost as u64)
+}
+
+fn put_slept(out: &mut List<u8>, mode: Sleep, ticks: u32) -> Result<(), AllocError>
+    ensures { OnOk result (out.new ≡ out.old ++ words (codes "sleep" ∷ sleep_text mode ∷ decimal ticks ∷ [])) }
+{
+    put(out, b"sleep ")?;
+    put_sleep(out, mode)?;
+    put(out, b" ")?;
+    put_number(out, ticks as u64)
+}
+
+fn put_tick(out: &mut List<u8>, tick: u32) -> Result<(), AllocError>
+    ensures { OnOk result (out.new ≡ out.old ++ words (codes "tick" ∷ decimal tick ∷ [])) }
+{
+    put(out, b"tick ")?;
+    put_number(out, tick as u64)
+}
+
+fn put_print(out: &mut List<u8>, text: &Text) -> Result<(), AllocError>
+    ensures { OnOk result (out.new ≡ out.old ++ words (codes "print" ∷ quoted_text text.now ∷ [])) }
+{
+    put(out, b"print ")?;
+    put_quoted(out, text.bytes())
+}
+
+fn put_own(out: &mut List<u8>, mutex: &Name, name: &Name) -> Result<(), AllocError>
+    ensures { OnOk result (out.new ≡ out.old ++ words (codes "own" ∷ mutex.now ∷ name.now ∷ [])) }
+{
+    put_named(out, b"own", mutex)?;
+    put(out, b" ")?;
+    put(out, name.bytes())
+}
+
+fn put_mode(out: &mut List<u8>, mode: Sleep) -> Result<(), AllocError>
+    ensures { OnOk result (out.new ≡ out.old ++ words (codes "mode" ∷ sleep_text mode ∷ [])) }
+{
+    put(out, b"mode ")?;
+    put_sleep(out, mode)
+}
+
 // The words of a line.
 fn put_words(out: &mut List<u8>, line: &Line) -> Result<(), AllocError>
     ensures { OnOk result (out.new ≡ out.old ++ line_text line.now) }
 {
     match line {
-        Line::Run(name) => {
-            put(out, b"run ")?;
-            put(out, name.bytes())
-        }
-        Line::Out(name, head) => {
-            put(out, b"out ")?;
-            put(out, name.bytes())?;
-            if *head {
-                put(out, b" head")
-            } else {
-                put(out, b" tail")
-            }
-        }
-        Line::Done(name, k, answer) => {
-            put(out, b"do ")?;
-            put(out, name.bytes())?;
-            put(out, b" ")?;
-            put_number(out, *k as u64)?;
-            put(out, b" ")?;
-            put_answer(out, *answer)
-        }
-        Line::Again(name, k, answer) => {
-            put(out, b"again ")?;
-            put(out, name.bytes())?;
-            put(out, b" ")?;
-            put_number(out, *k as u64)?;
-            put(out, b" ")?;
-            put_answer(out, *answer)
-        }
-        Line::Wake(name, woke) => {
-            put(out, b"wake ")?;
-            put(out, name.bytes())?;
-            put(out, b" ")?;
-            put_woke(out, *woke)
-        }
-        Line::Cur(name, old, new) => {
-            put(out, b"prio ")?;
-            put(out, name.bytes())?;
-            put(out, b" ")?;
-            put_number(out, old.0 as u64)?;
-            put(out, b">")?;
-            put_number(out, new.0 as u64)
-        }
-        Line::Fire(name, fired) => {
-            put(out, b"fire ")?;
-            put(out, name.bytes())?;
-            put(out, b" ")?;
-            put_fired(out, *fired)
-        }
-        Line::Timeout(name) => {
-            put(out, b"timeout ")?;
-            put(out, name.bytes())
-        }
-        Line::Rx(name, text, lost) => {
-            put(out, b"rx ")?;
-            put(out, name.bytes())?;
-            put(out, b" ")?;
-            put_quoted(out, text.bytes())?;
-            put(out, b" ")?;
-            put_number(out, *lost as u64)
-        }
-        Line::Tx(name, text) => {
-            put(out, b"tx ")?;
-            put(out, name.bytes())?;
-            put(out, b" ")?;
-            put_quoted(out, text.bytes())
-        }
-        Line::Sleep(mode, ticks) => {
-            put(out, b"sleep ")?;
-            put_sleep(out, *mode)?;
-            put(out, b" ")?;
-            put_number(out, *ticks as u64)
-        }
-        Line::Suspend(name) => {
-            put(out, b"suspend ")?;
-            put(out, name.bytes())
-        }
-        Line::Resume(name) => {
-            put(out, b"resume ")?;
-            put(out, name.bytes())
-        }
-        Line::Tick(tick) => {
-            put(out, b"tick ")?;
-            put_number(out, *tick as u64)
-        }
-        Line::Print(text) => {
-            put(out, b"print ")?;
-            put_quoted(out, text.bytes())
-        }
-        Line::Close(name) => {
-            put(out, b"close ")?;
-            put(out, name.bytes())
-        }
-        Line::Own(mutex, name) => {
-            put(out, b"own ")?;
-            put(out, mutex.bytes())?;
-            put(out, b" ")?;
-            put(out, name.bytes())
-        }
-        Line::Mode(mode) => {
-            put(out, b"mode ")?;
-            put_sleep(out, *mode)
-        }
+        Line::Run(name) => put_named(out, b"run", name),
+        Line::Out(name, head) => put_out(out, name, *head),
+        Line::Done(name, k, answer) => put_stated(out, b"do", name, *k, *answer),
+        Line::Again(name, k, answer) => put_stated(out, b"again", name, *k, *answer),
+        Line::Wake(name, woke) => put_wake(out, name, *woke),
+        Line::Cur(name, old, new) => put_change(out, name, *old, *new),
+        Line::Fire(name, fired) => put_fire(out, name, *fired),
+        Line::Timeout(name) => put_named(out, b"timeout", name),
+        Line::Rx(name, text, lost) => put_received(out, name, text, *lost),
+        Line::Tx(name, text) => put_moved(out, b"tx", name, text),
+        Line::Sleep(mode, ticks) => put_slept(out, *mode, *ticks),
+        Line::Suspend(name) => put_named(out, b"suspend", name),
+        Line::Resume(name) => put_named(out, b"resume", name),
+        Line::Tick(tick) => put_tick(out, *tick),
+        Line::Print(text) => put_print(out, text),
+        Line::Close(name) => put_named(out, b"close", name),
+        Line::Own(mutex, name) => put_own(out, mutex, name),
+        Line::Mode(mode) => put_mode(out, *mode),
     }
 }
 

@@ -38,3 +38,4 @@ pub mod CanonLemmas
 pub mod ValidLemmas
 pub mod RoomLemmas
 pub mod FireLemmas
+pub mod RowLemmas

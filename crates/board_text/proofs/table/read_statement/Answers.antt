@@ -1,347 +1,265 @@
-use Rattle.std.proofs.Common.{rules}
-use Rattle.rt_plain.specs.StatementTable.{statement_in}
+use Rattle.std.proofs.Common.{ℕ, ◌∙◌, refl, ap}
+use Rattle.rt_plain.specs.Splits.{word_at}
+use Rattle.rt_plain.specs.Fields.{number_in}
+use Rattle.rt_plain.specs.declared.kind.StatementKind.{StatementKind}
+use Rattle.rt_plain.proofs.SplitLemmas.{nows}
+use Rattle.rt_plain.proofs.RowLemmas.{both-same, statement-read}
 use Rattle.board_text.proofs.table.read_statement.Goals as goal
 
 pub returns-in-Ok : goal.returns-in-Ok
-unfolding statement_in
-returns-in-Ok c = rw c.in-Print.is (search rules)
+returns-in-Ok c = statement-read c.args.board_levels (nows c.args.words.now) c.args.kind StatementKind.Print _ c.in-Print.is (c.in-Ok.ensures ∙ both-same c.text.ensures refl)
 
 pub returns-in-Err : goal.returns-in-Err
-unfolding statement_in
-returns-in-Err c = rw (c.in-Print.is, ← c.text.ensures, ← c.all1.ensures, c.in-Err.is)
+returns-in-Err c = statement-read c.args.board_levels (nows c.args.words.now) c.args.kind StatementKind.Print _ c.in-Print.is (c.in-Err.ensures ∙ both-same c.text.ensures refl)
 
 pub returns-in-Ok-all1 : goal.returns-in-Ok-all1
-unfolding statement_in
-returns-in-Ok-all1 c = rw c.in-Say.is (search rules)
+returns-in-Ok-all1 c = statement-read c.args.board_levels (nows c.args.words.now) c.args.kind StatementKind.Say _ c.in-Say.is (c.in-Ok-all1.ensures ∙ both-same c.what.ensures refl)
 
 pub returns-in-Err-all1 : goal.returns-in-Err-all1
-unfolding statement_in
-returns-in-Err-all1 c = rw (c.in-Say.is, ← c.what.ensures, ← c.all1-in-Say.ensures, c.in-Err-all1.is)
+returns-in-Err-all1 c = statement-read c.args.board_levels (nows c.args.words.now) c.args.kind StatementKind.Say _ c.in-Say.is (c.in-Err-all1.ensures ∙ both-same c.what.ensures refl)
 
 pub returns-in-Ok-all1-2 : goal.returns-in-Ok-all1-2
-unfolding statement_in
-returns-in-Ok-all1-2 c = rw c.in-Goto.is (search rules)
+returns-in-Ok-all1-2 c = statement-read c.args.board_levels (nows c.args.words.now) c.args.kind StatementKind.Goto _ c.in-Goto.is (c.in-Ok-all1-2.ensures ∙ both-same c.half.ensures refl)
 
 pub returns-in-Err-all1-2 : goal.returns-in-Err-all1-2
-unfolding statement_in
-returns-in-Err-all1-2 c = rw (c.in-Goto.is, ← c.half.ensures, ← c.all1-in-Goto.ensures, c.in-Err-all1-2.is)
+returns-in-Err-all1-2 c = statement-read c.args.board_levels (nows c.args.words.now) c.args.kind StatementKind.Goto _ c.in-Goto.is (c.in-Err-all1-2.ensures ∙ both-same c.half.ensures refl)
 
 pub returns-in-Ok-all2 : goal.returns-in-Ok-all2
-unfolding statement_in
-returns-in-Ok-all2 c = rw c.in-IfCode.is (search rules)
+returns-in-Ok-all2 c = statement-read c.args.board_levels (nows c.args.words.now) c.args.kind StatementKind.IfCode _ c.in-IfCode.is (c.in-Ok-all2.ensures ∙ both-same c.code.ensures (both-same c.half-in-IfCode.ensures refl))
 
 pub returns-in-Err-all2 : goal.returns-in-Err-all2
-unfolding statement_in
-returns-in-Err-all2 c = rw (c.in-IfCode.is, ← c.code.ensures, ← c.half-in-IfCode.ensures, ← c.all2.ensures, c.in-Err-all2.is)
+returns-in-Err-all2 c = statement-read c.args.board_levels (nows c.args.words.now) c.args.kind StatementKind.IfCode _ c.in-IfCode.is (c.in-Err-all2.ensures ∙ both-same c.code.ensures (both-same c.half-in-IfCode.ensures refl))
 
 pub returns-in-Ok-all1-3 : goal.returns-in-Ok-all1-3
-unfolding statement_in
-returns-in-Ok-all1-3 c = rw c.in-Count.is (search rules)
+returns-in-Ok-all1-3 c = statement-read c.args.board_levels (nows c.args.words.now) c.args.kind StatementKind.Count _ c.in-Count.is (c.in-Ok-all1-3.ensures ∙ both-same c.half-in-Count.ensures refl)
 
 pub returns-in-Err-all1-3 : goal.returns-in-Err-all1-3
-unfolding statement_in
-returns-in-Err-all1-3 c = rw (c.in-Count.is, ← c.half-in-Count.ensures, ← c.all1-in-Count.ensures, c.in-Err-all1-3.is)
+returns-in-Err-all1-3 c = statement-read c.args.board_levels (nows c.args.words.now) c.args.kind StatementKind.Count _ c.in-Count.is (c.in-Err-all1-3.ensures ∙ both-same c.half-in-Count.ensures refl)
 
 pub returns-in-Ok-all1-4 : goal.returns-in-Ok-all1-4
-unfolding statement_in
-returns-in-Ok-all1-4 c = rw c.in-Next.is (search rules)
+returns-in-Ok-all1-4 c = statement-read c.args.board_levels (nows c.args.words.now) c.args.kind StatementKind.Next _ c.in-Next.is (c.in-Ok-all1-4.ensures ∙ both-same c.half-in-Next.ensures refl)
 
 pub returns-in-Err-all1-4 : goal.returns-in-Err-all1-4
-unfolding statement_in
-returns-in-Err-all1-4 c = rw (c.in-Next.is, ← c.half-in-Next.ensures, ← c.all1-in-Next.ensures, c.in-Err-all1-4.is)
+returns-in-Err-all1-4 c = statement-read c.args.board_levels (nows c.args.words.now) c.args.kind StatementKind.Next _ c.in-Next.is (c.in-Err-all1-4.ensures ∙ both-same c.half-in-Next.ensures refl)
 
 pub returns-in-Ok-all0 : goal.returns-in-Ok-all0
-unfolding statement_in
-returns-in-Ok-all0 c = rw c.in-Exit.is (search rules)
+returns-in-Ok-all0 c = statement-read c.args.board_levels (nows c.args.words.now) c.args.kind StatementKind.Exit _ c.in-Exit.is c.in-Ok-all0.ensures
 
 pub returns-in-Ok-all1-5 : goal.returns-in-Ok-all1-5
-unfolding statement_in
-returns-in-Ok-all1-5 c = rw c.in-Delay.is (search rules)
+returns-in-Ok-all1-5 c = statement-read c.args.board_levels (nows c.args.words.now) c.args.kind StatementKind.Delay _ c.in-Delay.is (c.in-Ok-all1-5.ensures ∙ both-same c.number.ensures refl)
 
 pub returns-in-Err-all1-5 : goal.returns-in-Err-all1-5
-unfolding statement_in
-returns-in-Err-all1-5 c = rw (c.in-Delay.is, ← c.number.ensures, ← c.all1-in-Delay.ensures, c.in-Err-all1-5.is)
+returns-in-Err-all1-5 c = statement-read c.args.board_levels (nows c.args.words.now) c.args.kind StatementKind.Delay _ c.in-Delay.is (c.in-Err-all1-5.ensures ∙ both-same c.number.ensures refl)
 
 pub returns-in-Ok-all0-2 : goal.returns-in-Ok-all0-2
-unfolding statement_in
-returns-in-Ok-all0-2 c = rw c.in-Yield.is (search rules)
+returns-in-Ok-all0-2 c = statement-read c.args.board_levels (nows c.args.words.now) c.args.kind StatementKind.Yield _ c.in-Yield.is c.in-Ok-all0-2.ensures
 
 pub returns-in-Ok-all1-6 : goal.returns-in-Ok-all1-6
-unfolding statement_in
-returns-in-Ok-all1-6 c = rw c.in-Startup.is (search rules)
+returns-in-Ok-all1-6 c = statement-read c.args.board_levels (nows c.args.words.now) c.args.kind StatementKind.Startup _ c.in-Startup.is (c.in-Ok-all1-6.ensures ∙ both-same c.name.ensures refl)
 
 pub returns-in-Err-all1-6 : goal.returns-in-Err-all1-6
-unfolding statement_in
-returns-in-Err-all1-6 c = rw (c.in-Startup.is, ← c.name.ensures, ← c.all1-in-Startup.ensures, c.in-Err-all1-6.is)
+returns-in-Err-all1-6 c = statement-read c.args.board_levels (nows c.args.words.now) c.args.kind StatementKind.Startup _ c.in-Startup.is (c.in-Err-all1-6.ensures ∙ both-same c.name.ensures refl)
 
 pub returns-in-Ok-all1-7 : goal.returns-in-Ok-all1-7
-unfolding statement_in
-returns-in-Ok-all1-7 c = rw c.in-Suspend.is (search rules)
+returns-in-Ok-all1-7 c = statement-read c.args.board_levels (nows c.args.words.now) c.args.kind StatementKind.Suspend _ c.in-Suspend.is (c.in-Ok-all1-7.ensures ∙ both-same c.name-in-Suspend.ensures refl)
 
 pub returns-in-Err-all1-7 : goal.returns-in-Err-all1-7
-unfolding statement_in
-returns-in-Err-all1-7 c = rw (c.in-Suspend.is, ← c.name-in-Suspend.ensures, ← c.all1-in-Suspend.ensures, c.in-Err-all1-7.is)
+returns-in-Err-all1-7 c = statement-read c.args.board_levels (nows c.args.words.now) c.args.kind StatementKind.Suspend _ c.in-Suspend.is (c.in-Err-all1-7.ensures ∙ both-same c.name-in-Suspend.ensures refl)
 
 pub returns-in-Ok-all1-8 : goal.returns-in-Ok-all1-8
-unfolding statement_in
-returns-in-Ok-all1-8 c = rw c.in-Resume.is (search rules)
+returns-in-Ok-all1-8 c = statement-read c.args.board_levels (nows c.args.words.now) c.args.kind StatementKind.Resume _ c.in-Resume.is (c.in-Ok-all1-8.ensures ∙ both-same c.name-in-Resume.ensures refl)
 
 pub returns-in-Err-all1-8 : goal.returns-in-Err-all1-8
-unfolding statement_in
-returns-in-Err-all1-8 c = rw (c.in-Resume.is, ← c.name-in-Resume.ensures, ← c.all1-in-Resume.ensures, c.in-Err-all1-8.is)
+returns-in-Err-all1-8 c = statement-read c.args.board_levels (nows c.args.words.now) c.args.kind StatementKind.Resume _ c.in-Resume.is (c.in-Err-all1-8.ensures ∙ both-same c.name-in-Resume.ensures refl)
 
 pub returns-in-Ok-all1-9 : goal.returns-in-Ok-all1-9
-unfolding statement_in
-returns-in-Ok-all1-9 c = rw c.in-Kill.is (search rules)
+returns-in-Ok-all1-9 c = statement-read c.args.board_levels (nows c.args.words.now) c.args.kind StatementKind.Kill _ c.in-Kill.is (c.in-Ok-all1-9.ensures ∙ both-same c.name-in-Kill.ensures refl)
 
 pub returns-in-Err-all1-9 : goal.returns-in-Err-all1-9
-unfolding statement_in
-returns-in-Err-all1-9 c = rw (c.in-Kill.is, ← c.name-in-Kill.ensures, ← c.all1-in-Kill.ensures, c.in-Err-all1-9.is)
+returns-in-Err-all1-9 c = statement-read c.args.board_levels (nows c.args.words.now) c.args.kind StatementKind.Kill _ c.in-Kill.is (c.in-Err-all1-9.ensures ∙ both-same c.name-in-Kill.ensures refl)
 
 pub returns-in-Ok-all2-2 : goal.returns-in-Ok-all2-2
-unfolding statement_in
-returns-in-Ok-all2-2 c = rw c.in-SetPrio.is (search rules)
+returns-in-Ok-all2-2 c = statement-read c.args.board_levels (nows c.args.words.now) c.args.kind StatementKind.SetPrio _ c.in-SetPrio.is (c.in-Ok-all2-2.ensures ∙ both-same c.name-in-SetPrio.ensures (both-same (c.prio.ensures ∙ ap (λ (n : ℕ). number_in 0 n (word_at (nows c.args.words.now) 2)) c.below_idle.ensures) refl))
 
 pub returns-in-Err-all2-2 : goal.returns-in-Err-all2-2
-unfolding statement_in
-returns-in-Err-all2-2 c = rw (c.in-SetPrio.is, ← c.below_idle.ensures, ← c.name-in-SetPrio.ensures, ← c.prio.ensures, ← c.all2-in-SetPrio.ensures, c.in-Err-all2-2.is)
+returns-in-Err-all2-2 c = statement-read c.args.board_levels (nows c.args.words.now) c.args.kind StatementKind.SetPrio _ c.in-SetPrio.is (c.in-Err-all2-2.ensures ∙ both-same c.name-in-SetPrio.ensures (both-same (c.prio.ensures ∙ ap (λ (n : ℕ). number_in 0 n (word_at (nows c.args.words.now) 2)) c.below_idle.ensures) refl))
 
 pub returns-in-Ok-all0-3 : goal.returns-in-Ok-all0-3
-unfolding statement_in
-returns-in-Ok-all0-3 c = rw c.in-Lock.is (search rules)
+returns-in-Ok-all0-3 c = statement-read c.args.board_levels (nows c.args.words.now) c.args.kind StatementKind.Lock _ c.in-Lock.is c.in-Ok-all0-3.ensures
 
 pub returns-in-Ok-all0-4 : goal.returns-in-Ok-all0-4
-unfolding statement_in
-returns-in-Ok-all0-4 c = rw c.in-Unlock.is (search rules)
+returns-in-Ok-all0-4 c = statement-read c.args.board_levels (nows c.args.words.now) c.args.kind StatementKind.Unlock _ c.in-Unlock.is c.in-Ok-all0-4.ensures
 
 pub returns-in-Ok-all0-5 : goal.returns-in-Ok-all0-5
-unfolding statement_in
-returns-in-Ok-all0-5 c = rw c.in-SchedLock.is (search rules)
+returns-in-Ok-all0-5 c = statement-read c.args.board_levels (nows c.args.words.now) c.args.kind StatementKind.SchedLock _ c.in-SchedLock.is c.in-Ok-all0-5.ensures
 
 pub returns-in-Ok-all0-6 : goal.returns-in-Ok-all0-6
-unfolding statement_in
-returns-in-Ok-all0-6 c = rw c.in-SchedUnlock.is (search rules)
+returns-in-Ok-all0-6 c = statement-read c.args.board_levels (nows c.args.words.now) c.args.kind StatementKind.SchedUnlock _ c.in-SchedUnlock.is c.in-Ok-all0-6.ensures
 
 pub returns-in-Ok-all3 : goal.returns-in-Ok-all3
-unfolding statement_in
-returns-in-Ok-all3 c = rw c.in-SemCreate.is (search rules)
+returns-in-Ok-all3 c = statement-read c.args.board_levels (nows c.args.words.now) c.args.kind StatementKind.SemCreate _ c.in-SemCreate.is (c.in-Ok-all3.ensures ∙ both-same c.name-in-SemCreate.ensures (both-same c.half-in-SemCreate.ensures (both-same c.order.ensures refl)))
 
 pub returns-in-Err-all3 : goal.returns-in-Err-all3
-unfolding statement_in
-returns-in-Err-all3 c = rw (c.in-SemCreate.is, ← c.name-in-SemCreate.ensures, ← c.half-in-SemCreate.ensures, ← c.order.ensures, ← c.all3.ensures, c.in-Err-all3.is)
+returns-in-Err-all3 c = statement-read c.args.board_levels (nows c.args.words.now) c.args.kind StatementKind.SemCreate _ c.in-SemCreate.is (c.in-Err-all3.ensures ∙ both-same c.name-in-SemCreate.ensures (both-same c.half-in-SemCreate.ensures (both-same c.order.ensures refl)))
 
 pub returns-in-Ok-all2-3 : goal.returns-in-Ok-all2-3
-unfolding statement_in
-returns-in-Ok-all2-3 c = rw c.in-SemTake.is (search rules)
+returns-in-Ok-all2-3 c = statement-read c.args.board_levels (nows c.args.words.now) c.args.kind StatementKind.SemTake _ c.in-SemTake.is (c.in-Ok-all2-3.ensures ∙ both-same c.name-in-SemTake.ensures (both-same c.wait.ensures refl))
 
 pub returns-in-Err-all2-3 : goal.returns-in-Err-all2-3
-unfolding statement_in
-returns-in-Err-all2-3 c = rw (c.in-SemTake.is, ← c.name-in-SemTake.ensures, ← c.wait.ensures, ← c.all2-in-SemTake.ensures, c.in-Err-all2-3.is)
+returns-in-Err-all2-3 c = statement-read c.args.board_levels (nows c.args.words.now) c.args.kind StatementKind.SemTake _ c.in-SemTake.is (c.in-Err-all2-3.ensures ∙ both-same c.name-in-SemTake.ensures (both-same c.wait.ensures refl))
 
 pub returns-in-Ok-all1-10 : goal.returns-in-Ok-all1-10
-unfolding statement_in
-returns-in-Ok-all1-10 c = rw c.in-SemRelease.is (search rules)
+returns-in-Ok-all1-10 c = statement-read c.args.board_levels (nows c.args.words.now) c.args.kind StatementKind.SemRelease _ c.in-SemRelease.is (c.in-Ok-all1-10.ensures ∙ both-same c.name-in-SemRelease.ensures refl)
 
 pub returns-in-Err-all1-10 : goal.returns-in-Err-all1-10
-unfolding statement_in
-returns-in-Err-all1-10 c = rw (c.in-SemRelease.is, ← c.name-in-SemRelease.ensures, ← c.all1-in-SemRelease.ensures, c.in-Err-all1-10.is)
+returns-in-Err-all1-10 c = statement-read c.args.board_levels (nows c.args.words.now) c.args.kind StatementKind.SemRelease _ c.in-SemRelease.is (c.in-Err-all1-10.ensures ∙ both-same c.name-in-SemRelease.ensures refl)
 
 pub returns-in-Ok-all2-4 : goal.returns-in-Ok-all2-4
-unfolding statement_in
-returns-in-Ok-all2-4 c = rw c.in-EventCreate.is (search rules)
+returns-in-Ok-all2-4 c = statement-read c.args.board_levels (nows c.args.words.now) c.args.kind StatementKind.EventCreate _ c.in-EventCreate.is (c.in-Ok-all2-4.ensures ∙ both-same c.name-in-EventCreate.ensures (both-same c.order-in-EventCreate.ensures refl))
 
 pub returns-in-Err-all2-4 : goal.returns-in-Err-all2-4
-unfolding statement_in
-returns-in-Err-all2-4 c = rw (c.in-EventCreate.is, ← c.name-in-EventCreate.ensures, ← c.order-in-EventCreate.ensures, ← c.all2-in-EventCreate.ensures, c.in-Err-all2-4.is)
+returns-in-Err-all2-4 c = statement-read c.args.board_levels (nows c.args.words.now) c.args.kind StatementKind.EventCreate _ c.in-EventCreate.is (c.in-Err-all2-4.ensures ∙ both-same c.name-in-EventCreate.ensures (both-same c.order-in-EventCreate.ensures refl))
 
 pub returns-in-Ok-all2-5 : goal.returns-in-Ok-all2-5
-unfolding statement_in
-returns-in-Ok-all2-5 c = rw c.in-EventSend.is (search rules)
+returns-in-Ok-all2-5 c = statement-read c.args.board_levels (nows c.args.words.now) c.args.kind StatementKind.EventSend _ c.in-EventSend.is (c.in-Ok-all2-5.ensures ∙ both-same c.name-in-EventSend.ensures (both-same c.number-in-EventSend.ensures refl))
 
 pub returns-in-Err-all2-5 : goal.returns-in-Err-all2-5
-unfolding statement_in
-returns-in-Err-all2-5 c = rw (c.in-EventSend.is, ← c.name-in-EventSend.ensures, ← c.number-in-EventSend.ensures, ← c.all2-in-EventSend.ensures, c.in-Err-all2-5.is)
+returns-in-Err-all2-5 c = statement-read c.args.board_levels (nows c.args.words.now) c.args.kind StatementKind.EventSend _ c.in-EventSend.is (c.in-Err-all2-5.ensures ∙ both-same c.name-in-EventSend.ensures (both-same c.number-in-EventSend.ensures refl))
 
 pub returns-in-Ok-all5 : goal.returns-in-Ok-all5
-unfolding statement_in
-returns-in-Ok-all5 c = rw c.in-EventRecv.is (search rules)
+returns-in-Ok-all5 c = statement-read c.args.board_levels (nows c.args.words.now) c.args.kind StatementKind.EventRecv _ c.in-EventRecv.is (c.in-Ok-all5.ensures ∙ both-same c.name-in-EventRecv.ensures (both-same c.number-in-EventRecv.ensures (both-same c.how.ensures (both-same c.keep.ensures (both-same c.wait-in-EventRecv.ensures refl)))))
 
 pub returns-in-Err-all5 : goal.returns-in-Err-all5
-unfolding statement_in
-returns-in-Err-all5 c = rw (c.in-EventRecv.is, ← c.name-in-EventRecv.ensures, ← c.number-in-EventRecv.ensures, ← c.how.ensures, ← c.keep.ensures, ← c.wait-in-EventRecv.ensures, ← c.all5.ensures, c.in-Err-all5.is)
+returns-in-Err-all5 c = statement-read c.args.board_levels (nows c.args.words.now) c.args.kind StatementKind.EventRecv _ c.in-EventRecv.is (c.in-Err-all5.ensures ∙ both-same c.name-in-EventRecv.ensures (both-same c.number-in-EventRecv.ensures (both-same c.how.ensures (both-same c.keep.ensures (both-same c.wait-in-EventRecv.ensures refl)))))
 
 pub returns-in-Ok-all2-6 : goal.returns-in-Ok-all2-6
-unfolding statement_in
-returns-in-Ok-all2-6 c = rw c.in-MutexCreate.is (search rules)
+returns-in-Ok-all2-6 c = statement-read c.args.board_levels (nows c.args.words.now) c.args.kind StatementKind.MutexCreate _ c.in-MutexCreate.is (c.in-Ok-all2-6.ensures ∙ both-same c.name-in-MutexCreate.ensures (both-same (c.prio-in-MutexCreate.ensures ∙ ap (λ (n : ℕ). number_in 0 n (word_at (nows c.args.words.now) 2)) c.idle.ensures) refl))
 
 pub returns-in-Err-all2-6 : goal.returns-in-Err-all2-6
-unfolding statement_in
-returns-in-Err-all2-6 c = rw (c.in-MutexCreate.is, ← c.idle.ensures, ← c.name-in-MutexCreate.ensures, ← c.prio-in-MutexCreate.ensures, ← c.all2-in-MutexCreate.ensures, c.in-Err-all2-6.is)
+returns-in-Err-all2-6 c = statement-read c.args.board_levels (nows c.args.words.now) c.args.kind StatementKind.MutexCreate _ c.in-MutexCreate.is (c.in-Err-all2-6.ensures ∙ both-same c.name-in-MutexCreate.ensures (both-same (c.prio-in-MutexCreate.ensures ∙ ap (λ (n : ℕ). number_in 0 n (word_at (nows c.args.words.now) 2)) c.idle.ensures) refl))
 
 pub returns-in-Ok-all2-7 : goal.returns-in-Ok-all2-7
-unfolding statement_in
-returns-in-Ok-all2-7 c = rw c.in-MutexTake.is (search rules)
+returns-in-Ok-all2-7 c = statement-read c.args.board_levels (nows c.args.words.now) c.args.kind StatementKind.MutexTake _ c.in-MutexTake.is (c.in-Ok-all2-7.ensures ∙ both-same c.name-in-MutexTake.ensures (both-same c.wait-in-MutexTake.ensures refl))
 
 pub returns-in-Err-all2-7 : goal.returns-in-Err-all2-7
-unfolding statement_in
-returns-in-Err-all2-7 c = rw (c.in-MutexTake.is, ← c.name-in-MutexTake.ensures, ← c.wait-in-MutexTake.ensures, ← c.all2-in-MutexTake.ensures, c.in-Err-all2-7.is)
+returns-in-Err-all2-7 c = statement-read c.args.board_levels (nows c.args.words.now) c.args.kind StatementKind.MutexTake _ c.in-MutexTake.is (c.in-Err-all2-7.ensures ∙ both-same c.name-in-MutexTake.ensures (both-same c.wait-in-MutexTake.ensures refl))
 
 pub returns-in-Ok-all1-11 : goal.returns-in-Ok-all1-11
-unfolding statement_in
-returns-in-Ok-all1-11 c = rw c.in-MutexRelease.is (search rules)
+returns-in-Ok-all1-11 c = statement-read c.args.board_levels (nows c.args.words.now) c.args.kind StatementKind.MutexRelease _ c.in-MutexRelease.is (c.in-Ok-all1-11.ensures ∙ both-same c.name-in-MutexRelease.ensures refl)
 
 pub returns-in-Err-all1-11 : goal.returns-in-Err-all1-11
-unfolding statement_in
-returns-in-Err-all1-11 c = rw (c.in-MutexRelease.is, ← c.name-in-MutexRelease.ensures, ← c.all1-in-MutexRelease.ensures, c.in-Err-all1-11.is)
+returns-in-Err-all1-11 c = statement-read c.args.board_levels (nows c.args.words.now) c.args.kind StatementKind.MutexRelease _ c.in-MutexRelease.is (c.in-Err-all1-11.ensures ∙ both-same c.name-in-MutexRelease.ensures refl)
 
 pub returns-in-Ok-all2-8 : goal.returns-in-Ok-all2-8
-unfolding statement_in
-returns-in-Ok-all2-8 c = rw c.in-MutexCeiling.is (search rules)
+returns-in-Ok-all2-8 c = statement-read c.args.board_levels (nows c.args.words.now) c.args.kind StatementKind.MutexCeiling _ c.in-MutexCeiling.is (c.in-Ok-all2-8.ensures ∙ both-same c.name-in-MutexCeiling.ensures (both-same (c.prio-in-MutexCeiling.ensures ∙ ap (λ (n : ℕ). number_in 0 n (word_at (nows c.args.words.now) 2)) c.idle-in-MutexCeiling.ensures) refl))
 
 pub returns-in-Err-all2-8 : goal.returns-in-Err-all2-8
-unfolding statement_in
-returns-in-Err-all2-8 c = rw (c.in-MutexCeiling.is, ← c.idle-in-MutexCeiling.ensures, ← c.name-in-MutexCeiling.ensures, ← c.prio-in-MutexCeiling.ensures, ← c.all2-in-MutexCeiling.ensures, c.in-Err-all2-8.is)
+returns-in-Err-all2-8 c = statement-read c.args.board_levels (nows c.args.words.now) c.args.kind StatementKind.MutexCeiling _ c.in-MutexCeiling.is (c.in-Err-all2-8.ensures ∙ both-same c.name-in-MutexCeiling.ensures (both-same (c.prio-in-MutexCeiling.ensures ∙ ap (λ (n : ℕ). number_in 0 n (word_at (nows c.args.words.now) 2)) c.idle-in-MutexCeiling.ensures) refl))
 
 pub returns-in-Ok-all3-2 : goal.returns-in-Ok-all3-2
-unfolding statement_in
-returns-in-Ok-all3-2 c = rw c.in-MbSend.is (search rules)
+returns-in-Ok-all3-2 c = statement-read c.args.board_levels (nows c.args.words.now) c.args.kind StatementKind.MbSend _ c.in-MbSend.is (c.in-Ok-all3-2.ensures ∙ both-same c.name-in-MbSend.ensures (both-same c.number-in-MbSend.ensures (both-same c.wait-in-MbSend.ensures refl)))
 
 pub returns-in-Err-all3-2 : goal.returns-in-Err-all3-2
-unfolding statement_in
-returns-in-Err-all3-2 c = rw (c.in-MbSend.is, ← c.name-in-MbSend.ensures, ← c.number-in-MbSend.ensures, ← c.wait-in-MbSend.ensures, ← c.all3-in-MbSend.ensures, c.in-Err-all3-2.is)
+returns-in-Err-all3-2 c = statement-read c.args.board_levels (nows c.args.words.now) c.args.kind StatementKind.MbSend _ c.in-MbSend.is (c.in-Err-all3-2.ensures ∙ both-same c.name-in-MbSend.ensures (both-same c.number-in-MbSend.ensures (both-same c.wait-in-MbSend.ensures refl)))
 
 pub returns-in-Ok-all2-9 : goal.returns-in-Ok-all2-9
-unfolding statement_in
-returns-in-Ok-all2-9 c = rw c.in-MbUrgent.is (search rules)
+returns-in-Ok-all2-9 c = statement-read c.args.board_levels (nows c.args.words.now) c.args.kind StatementKind.MbUrgent _ c.in-MbUrgent.is (c.in-Ok-all2-9.ensures ∙ both-same c.name-in-MbUrgent.ensures (both-same c.number-in-MbUrgent.ensures refl))
 
 pub returns-in-Err-all2-9 : goal.returns-in-Err-all2-9
-unfolding statement_in
-returns-in-Err-all2-9 c = rw (c.in-MbUrgent.is, ← c.name-in-MbUrgent.ensures, ← c.number-in-MbUrgent.ensures, ← c.all2-in-MbUrgent.ensures, c.in-Err-all2-9.is)
+returns-in-Err-all2-9 c = statement-read c.args.board_levels (nows c.args.words.now) c.args.kind StatementKind.MbUrgent _ c.in-MbUrgent.is (c.in-Err-all2-9.ensures ∙ both-same c.name-in-MbUrgent.ensures (both-same c.number-in-MbUrgent.ensures refl))
 
 pub returns-in-Ok-all2-10 : goal.returns-in-Ok-all2-10
-unfolding statement_in
-returns-in-Ok-all2-10 c = rw c.in-MbRecv.is (search rules)
+returns-in-Ok-all2-10 c = statement-read c.args.board_levels (nows c.args.words.now) c.args.kind StatementKind.MbRecv _ c.in-MbRecv.is (c.in-Ok-all2-10.ensures ∙ both-same c.name-in-MbRecv.ensures (both-same c.wait-in-MbRecv.ensures refl))
 
 pub returns-in-Err-all2-10 : goal.returns-in-Err-all2-10
-unfolding statement_in
-returns-in-Err-all2-10 c = rw (c.in-MbRecv.is, ← c.name-in-MbRecv.ensures, ← c.wait-in-MbRecv.ensures, ← c.all2-in-MbRecv.ensures, c.in-Err-all2-10.is)
+returns-in-Err-all2-10 c = statement-read c.args.board_levels (nows c.args.words.now) c.args.kind StatementKind.MbRecv _ c.in-MbRecv.is (c.in-Err-all2-10.ensures ∙ both-same c.name-in-MbRecv.ensures (both-same c.wait-in-MbRecv.ensures refl))
 
 pub returns-in-Ok-all3-3 : goal.returns-in-Ok-all3-3
-unfolding statement_in
-returns-in-Ok-all3-3 c = rw c.in-MqSend.is (search rules)
+returns-in-Ok-all3-3 c = statement-read c.args.board_levels (nows c.args.words.now) c.args.kind StatementKind.MqSend _ c.in-MqSend.is (c.in-Ok-all3-3.ensures ∙ both-same c.name-in-MqSend.ensures (both-same c.wait-in-MqSend.ensures (both-same c.text-in-MqSend.ensures refl)))
 
 pub returns-in-Err-all3-3 : goal.returns-in-Err-all3-3
-unfolding statement_in
-returns-in-Err-all3-3 c = rw (c.in-MqSend.is, ← c.name-in-MqSend.ensures, ← c.wait-in-MqSend.ensures, ← c.text-in-MqSend.ensures, ← c.all3-in-MqSend.ensures, c.in-Err-all3-3.is)
+returns-in-Err-all3-3 c = statement-read c.args.board_levels (nows c.args.words.now) c.args.kind StatementKind.MqSend _ c.in-MqSend.is (c.in-Err-all3-3.ensures ∙ both-same c.name-in-MqSend.ensures (both-same c.wait-in-MqSend.ensures (both-same c.text-in-MqSend.ensures refl)))
 
 pub returns-in-Ok-all2-11 : goal.returns-in-Ok-all2-11
-unfolding statement_in
-returns-in-Ok-all2-11 c = rw c.in-MqUrgent.is (search rules)
+returns-in-Ok-all2-11 c = statement-read c.args.board_levels (nows c.args.words.now) c.args.kind StatementKind.MqUrgent _ c.in-MqUrgent.is (c.in-Ok-all2-11.ensures ∙ both-same c.name-in-MqUrgent.ensures (both-same c.text-in-MqUrgent.ensures refl))
 
 pub returns-in-Err-all2-11 : goal.returns-in-Err-all2-11
-unfolding statement_in
-returns-in-Err-all2-11 c = rw (c.in-MqUrgent.is, ← c.name-in-MqUrgent.ensures, ← c.text-in-MqUrgent.ensures, ← c.all2-in-MqUrgent.ensures, c.in-Err-all2-11.is)
+returns-in-Err-all2-11 c = statement-read c.args.board_levels (nows c.args.words.now) c.args.kind StatementKind.MqUrgent _ c.in-MqUrgent.is (c.in-Err-all2-11.ensures ∙ both-same c.name-in-MqUrgent.ensures (both-same c.text-in-MqUrgent.ensures refl))
 
 pub returns-in-Ok-all2-12 : goal.returns-in-Ok-all2-12
-unfolding statement_in
-returns-in-Ok-all2-12 c = rw c.in-MqRecv.is (search rules)
+returns-in-Ok-all2-12 c = statement-read c.args.board_levels (nows c.args.words.now) c.args.kind StatementKind.MqRecv _ c.in-MqRecv.is (c.in-Ok-all2-12.ensures ∙ both-same c.name-in-MqRecv.ensures (both-same c.wait-in-MqRecv.ensures refl))
 
 pub returns-in-Err-all2-12 : goal.returns-in-Err-all2-12
-unfolding statement_in
-returns-in-Err-all2-12 c = rw (c.in-MqRecv.is, ← c.name-in-MqRecv.ensures, ← c.wait-in-MqRecv.ensures, ← c.all2-in-MqRecv.ensures, c.in-Err-all2-12.is)
+returns-in-Err-all2-12 c = statement-read c.args.board_levels (nows c.args.words.now) c.args.kind StatementKind.MqRecv _ c.in-MqRecv.is (c.in-Err-all2-12.ensures ∙ both-same c.name-in-MqRecv.ensures (both-same c.wait-in-MqRecv.ensures refl))
 
 pub returns-in-Ok-all2-13 : goal.returns-in-Ok-all2-13
-unfolding statement_in
-returns-in-Ok-all2-13 c = rw c.in-Delete.is (search rules)
+returns-in-Ok-all2-13 c = statement-read c.args.board_levels (nows c.args.words.now) c.args.kind StatementKind.Delete _ c.in-Delete.is (c.in-Ok-all2-13.ensures ∙ both-same c.class.ensures (both-same c.name-in-Delete.ensures refl))
 
 pub returns-in-Err-all2-13 : goal.returns-in-Err-all2-13
-unfolding statement_in
-returns-in-Err-all2-13 c = rw (c.in-Delete.is, ← c.class.ensures, ← c.name-in-Delete.ensures, ← c.all2-in-Delete.ensures, c.in-Err-all2-13.is)
+returns-in-Err-all2-13 c = statement-read c.args.board_levels (nows c.args.words.now) c.args.kind StatementKind.Delete _ c.in-Delete.is (c.in-Err-all2-13.ensures ∙ both-same c.class.ensures (both-same c.name-in-Delete.ensures refl))
 
 pub returns-in-Ok-all1-12 : goal.returns-in-Ok-all1-12
-unfolding statement_in
-returns-in-Ok-all1-12 c = rw c.in-TimerStart.is (search rules)
+returns-in-Ok-all1-12 c = statement-read c.args.board_levels (nows c.args.words.now) c.args.kind StatementKind.TimerStart _ c.in-TimerStart.is (c.in-Ok-all1-12.ensures ∙ both-same c.name-in-TimerStart.ensures refl)
 
 pub returns-in-Err-all1-12 : goal.returns-in-Err-all1-12
-unfolding statement_in
-returns-in-Err-all1-12 c = rw (c.in-TimerStart.is, ← c.name-in-TimerStart.ensures, ← c.all1-in-TimerStart.ensures, c.in-Err-all1-12.is)
+returns-in-Err-all1-12 c = statement-read c.args.board_levels (nows c.args.words.now) c.args.kind StatementKind.TimerStart _ c.in-TimerStart.is (c.in-Err-all1-12.ensures ∙ both-same c.name-in-TimerStart.ensures refl)
 
 pub returns-in-Ok-all1-13 : goal.returns-in-Ok-all1-13
-unfolding statement_in
-returns-in-Ok-all1-13 c = rw c.in-TimerStop.is (search rules)
+returns-in-Ok-all1-13 c = statement-read c.args.board_levels (nows c.args.words.now) c.args.kind StatementKind.TimerStop _ c.in-TimerStop.is (c.in-Ok-all1-13.ensures ∙ both-same c.name-in-TimerStop.ensures refl)
 
 pub returns-in-Err-all1-13 : goal.returns-in-Err-all1-13
-unfolding statement_in
-returns-in-Err-all1-13 c = rw (c.in-TimerStop.is, ← c.name-in-TimerStop.ensures, ← c.all1-in-TimerStop.ensures, c.in-Err-all1-13.is)
+returns-in-Err-all1-13 c = statement-read c.args.board_levels (nows c.args.words.now) c.args.kind StatementKind.TimerStop _ c.in-TimerStop.is (c.in-Err-all1-13.ensures ∙ both-same c.name-in-TimerStop.ensures refl)
 
 pub returns-in-Ok-all2-14 : goal.returns-in-Ok-all2-14
-unfolding statement_in
-returns-in-Ok-all2-14 c = rw c.in-TimerSet.is (search rules)
+returns-in-Ok-all2-14 c = statement-read c.args.board_levels (nows c.args.words.now) c.args.kind StatementKind.TimerSet _ c.in-TimerSet.is (c.in-Ok-all2-14.ensures ∙ both-same c.name-in-TimerSet.ensures (both-same c.number-in-TimerSet.ensures refl))
 
 pub returns-in-Err-all2-14 : goal.returns-in-Err-all2-14
-unfolding statement_in
-returns-in-Err-all2-14 c = rw (c.in-TimerSet.is, ← c.name-in-TimerSet.ensures, ← c.number-in-TimerSet.ensures, ← c.all2-in-TimerSet.ensures, c.in-Err-all2-14.is)
+returns-in-Err-all2-14 c = statement-read c.args.board_levels (nows c.args.words.now) c.args.kind StatementKind.TimerSet _ c.in-TimerSet.is (c.in-Err-all2-14.ensures ∙ both-same c.name-in-TimerSet.ensures (both-same c.number-in-TimerSet.ensures refl))
 
 pub returns-in-Ok-all1-14 : goal.returns-in-Ok-all1-14
-unfolding statement_in
-returns-in-Ok-all1-14 c = rw c.in-DevOpen.is (search rules)
+returns-in-Ok-all1-14 c = statement-read c.args.board_levels (nows c.args.words.now) c.args.kind StatementKind.DevOpen _ c.in-DevOpen.is (c.in-Ok-all1-14.ensures ∙ both-same c.name-in-DevOpen.ensures refl)
 
 pub returns-in-Err-all1-14 : goal.returns-in-Err-all1-14
-unfolding statement_in
-returns-in-Err-all1-14 c = rw (c.in-DevOpen.is, ← c.name-in-DevOpen.ensures, ← c.all1-in-DevOpen.ensures, c.in-Err-all1-14.is)
+returns-in-Err-all1-14 c = statement-read c.args.board_levels (nows c.args.words.now) c.args.kind StatementKind.DevOpen _ c.in-DevOpen.is (c.in-Err-all1-14.ensures ∙ both-same c.name-in-DevOpen.ensures refl)
 
 pub returns-in-Ok-all1-15 : goal.returns-in-Ok-all1-15
-unfolding statement_in
-returns-in-Ok-all1-15 c = rw c.in-DevClose.is (search rules)
+returns-in-Ok-all1-15 c = statement-read c.args.board_levels (nows c.args.words.now) c.args.kind StatementKind.DevClose _ c.in-DevClose.is (c.in-Ok-all1-15.ensures ∙ both-same c.name-in-DevClose.ensures refl)
 
 pub returns-in-Err-all1-15 : goal.returns-in-Err-all1-15
-unfolding statement_in
-returns-in-Err-all1-15 c = rw (c.in-DevClose.is, ← c.name-in-DevClose.ensures, ← c.all1-in-DevClose.ensures, c.in-Err-all1-15.is)
+returns-in-Err-all1-15 c = statement-read c.args.board_levels (nows c.args.words.now) c.args.kind StatementKind.DevClose _ c.in-DevClose.is (c.in-Err-all1-15.ensures ∙ both-same c.name-in-DevClose.ensures refl)
 
 pub returns-in-Ok-all2-15 : goal.returns-in-Ok-all2-15
-unfolding statement_in
-returns-in-Ok-all2-15 c = rw c.in-DevRead.is (search rules)
+returns-in-Ok-all2-15 c = statement-read c.args.board_levels (nows c.args.words.now) c.args.kind StatementKind.DevRead _ c.in-DevRead.is (c.in-Ok-all2-15.ensures ∙ both-same c.name-in-DevRead.ensures (both-same c.byte.ensures refl))
 
 pub returns-in-Err-all2-15 : goal.returns-in-Err-all2-15
-unfolding statement_in
-returns-in-Err-all2-15 c = rw (c.in-DevRead.is, ← c.name-in-DevRead.ensures, ← c.byte.ensures, ← c.all2-in-DevRead.ensures, c.in-Err-all2-15.is)
+returns-in-Err-all2-15 c = statement-read c.args.board_levels (nows c.args.words.now) c.args.kind StatementKind.DevRead _ c.in-DevRead.is (c.in-Err-all2-15.ensures ∙ both-same c.name-in-DevRead.ensures (both-same c.byte.ensures refl))
 
 pub returns-in-Ok-all2-16 : goal.returns-in-Ok-all2-16
-unfolding statement_in
-returns-in-Ok-all2-16 c = rw c.in-DevWrite.is (search rules)
+returns-in-Ok-all2-16 c = statement-read c.args.board_levels (nows c.args.words.now) c.args.kind StatementKind.DevWrite _ c.in-DevWrite.is (c.in-Ok-all2-16.ensures ∙ both-same c.name-in-DevWrite.ensures (both-same c.text-in-DevWrite.ensures refl))
 
 pub returns-in-Err-all2-16 : goal.returns-in-Err-all2-16
-unfolding statement_in
-returns-in-Err-all2-16 c = rw (c.in-DevWrite.is, ← c.name-in-DevWrite.ensures, ← c.text-in-DevWrite.ensures, ← c.all2-in-DevWrite.ensures, c.in-Err-all2-16.is)
+returns-in-Err-all2-16 c = statement-read c.args.board_levels (nows c.args.words.now) c.args.kind StatementKind.DevWrite _ c.in-DevWrite.is (c.in-Err-all2-16.ensures ∙ both-same c.name-in-DevWrite.ensures (both-same c.text-in-DevWrite.ensures refl))
 
 pub returns-in-Ok-all2-17 : goal.returns-in-Ok-all2-17
-unfolding statement_in
-returns-in-Ok-all2-17 c = rw c.in-DevCtl.is (search rules)
+returns-in-Ok-all2-17 c = statement-read c.args.board_levels (nows c.args.words.now) c.args.kind StatementKind.DevCtl _ c.in-DevCtl.is (c.in-Ok-all2-17.ensures ∙ both-same c.name-in-DevCtl.ensures (both-same c.byte-in-DevCtl.ensures refl))
 
 pub returns-in-Err-all2-17 : goal.returns-in-Err-all2-17
-unfolding statement_in
-returns-in-Err-all2-17 c = rw (c.in-DevCtl.is, ← c.name-in-DevCtl.ensures, ← c.byte-in-DevCtl.ensures, ← c.all2-in-DevCtl.ensures, c.in-Err-all2-17.is)
+returns-in-Err-all2-17 c = statement-read c.args.board_levels (nows c.args.words.now) c.args.kind StatementKind.DevCtl _ c.in-DevCtl.is (c.in-Err-all2-17.ensures ∙ both-same c.name-in-DevCtl.ensures (both-same c.byte-in-DevCtl.ensures refl))
 
 pub returns-in-Ok-all1-16 : goal.returns-in-Ok-all1-16
-unfolding statement_in
-returns-in-Ok-all1-16 c = rw c.in-PmRequest.is (search rules)
+returns-in-Ok-all1-16 c = statement-read c.args.board_levels (nows c.args.words.now) c.args.kind StatementKind.PmRequest _ c.in-PmRequest.is (c.in-Ok-all1-16.ensures ∙ both-same c.mode.ensures refl)
 
 pub returns-in-Err-all1-16 : goal.returns-in-Err-all1-16
-unfolding statement_in
-returns-in-Err-all1-16 c = rw (c.in-PmRequest.is, ← c.mode.ensures, ← c.all1-in-PmRequest.ensures, c.in-Err-all1-16.is)
+returns-in-Err-all1-16 c = statement-read c.args.board_levels (nows c.args.words.now) c.args.kind StatementKind.PmRequest _ c.in-PmRequest.is (c.in-Err-all1-16.ensures ∙ both-same c.mode.ensures refl)
 
 pub returns-in-Ok-all1-17 : goal.returns-in-Ok-all1-17
-unfolding statement_in
-returns-in-Ok-all1-17 c = rw c.in-PmRelease.is (search rules)
+returns-in-Ok-all1-17 c = statement-read c.args.board_levels (nows c.args.words.now) c.args.kind StatementKind.PmRelease _ c.in-PmRelease.is (c.in-Ok-all1-17.ensures ∙ both-same c.mode-in-PmRelease.ensures refl)
 
 pub returns-in-Err-all1-17 : goal.returns-in-Err-all1-17
-unfolding statement_in
-returns-in-Err-all1-17 c = rw (c.in-PmRelease.is, ← c.mode-in-PmRelease.ensures, ← c.all1-in-PmRelease.ensures, c.in-Err-all1-17.is)
+returns-in-Err-all1-17 c = statement-read c.args.board_levels (nows c.args.words.now) c.args.kind StatementKind.PmRelease _ c.in-PmRelease.is (c.in-Err-all1-17.ensures ∙ both-same c.mode-in-PmRelease.ensures refl)
 
 pub returns-in-Ok-all1-18 : goal.returns-in-Ok-all1-18
-unfolding statement_in
-returns-in-Ok-all1-18 c = rw c.in-PmRun.is (search rules)
+returns-in-Ok-all1-18 c = statement-read c.args.board_levels (nows c.args.words.now) c.args.kind StatementKind.PmRun _ c.in-PmRun.is (c.in-Ok-all1-18.ensures ∙ both-same c.run.ensures refl)
 
 pub returns-in-Err-all1-18 : goal.returns-in-Err-all1-18
-unfolding statement_in
-returns-in-Err-all1-18 c = rw (c.in-PmRun.is, ← c.run.ensures, ← c.all1-in-PmRun.ensures, c.in-Err-all1-18.is)
+returns-in-Err-all1-18 c = statement-read c.args.board_levels (nows c.args.words.now) c.args.kind StatementKind.PmRun _ c.in-PmRun.is (c.in-Err-all1-18.ensures ∙ both-same c.run.ensures refl)

@@ -1,136 +1,106 @@
-use Rattle.std.proofs.Common.{rules, ◌∙◌, sym, ap}
-use Rattle.rt_plain.specs.declared.kind.TraceKind.{TraceKind}
+use Rattle.std.proofs.Common.{◌∙◌, refl, sym, ap}
 use Rattle.rt_plain.specs.Fields.{result_map}
 use Rattle.rt_plain.specs.TraceRows.{line_made, line_in}
+use Rattle.rt_plain.specs.declared.kind.TraceKind.{TraceKind}
+use Rattle.rt_plain.proofs.SplitLemmas.{nows}
+use Rattle.rt_plain.proofs.RowLemmas.{both-same, line-read}
 use Rattle.journal.proofs.rows.read_line.Goals as goal
 
 pub returns-in-Ok : goal.returns-in-Ok
-unfolding line_in
-returns-in-Ok c = rw c.in-Run.is (search rules)
+returns-in-Ok c = line-read (nows c.args.words.now) c.args.kind TraceKind.Run _ c.in-Run.is (c.in-Ok.ensures ∙ both-same c.name.ensures refl)
 
 pub returns-in-Err : goal.returns-in-Err
-unfolding line_in
-returns-in-Err c = rw (c.in-Run.is, ← c.name.ensures, ← c.all1.ensures, c.in-Err.is)
+returns-in-Err c = line-read (nows c.args.words.now) c.args.kind TraceKind.Run _ c.in-Run.is (c.in-Err.ensures ∙ both-same c.name.ensures refl)
 
 pub returns-in-Ok-all2 : goal.returns-in-Ok-all2
-unfolding line_in
-returns-in-Ok-all2 c = rw c.in-Out.is (search rules)
+returns-in-Ok-all2 c = line-read (nows c.args.words.now) c.args.kind TraceKind.Out _ c.in-Out.is (c.in-Ok-all2.ensures ∙ both-same c.name-in-Out.ensures (both-same c.placed.ensures refl))
 
 pub returns-in-Err-all2 : goal.returns-in-Err-all2
-unfolding line_in
-returns-in-Err-all2 c = rw (c.in-Out.is, ← c.name-in-Out.ensures, ← c.placed.ensures, ← c.all2.ensures, c.in-Err-all2.is)
+returns-in-Err-all2 c = line-read (nows c.args.words.now) c.args.kind TraceKind.Out _ c.in-Out.is (c.in-Err-all2.ensures ∙ both-same c.name-in-Out.ensures (both-same c.placed.ensures refl))
 
 pub returns-in-Ok-all2-2 : goal.returns-in-Ok-all2-2
-unfolding line_in
-returns-in-Ok-all2-2 c = rw c.in-Wake.is (search rules)
+returns-in-Ok-all2-2 c = line-read (nows c.args.words.now) c.args.kind TraceKind.Wake _ c.in-Wake.is (c.in-Ok-all2-2.ensures ∙ both-same c.name-in-Wake.ensures (both-same c.woken.ensures refl))
 
 pub returns-in-Err-all2-2 : goal.returns-in-Err-all2-2
-unfolding line_in
-returns-in-Err-all2-2 c = rw (c.in-Wake.is, ← c.name-in-Wake.ensures, ← c.woken.ensures, ← c.all2-in-Wake.ensures, c.in-Err-all2-2.is)
+returns-in-Err-all2-2 c = line-read (nows c.args.words.now) c.args.kind TraceKind.Wake _ c.in-Wake.is (c.in-Err-all2-2.ensures ∙ both-same c.name-in-Wake.ensures (both-same c.woken.ensures refl))
 
 pub returns-in-Ok-all2-3 : goal.returns-in-Ok-all2-3
-unfolding line_in
-returns-in-Ok-all2-3 c = rw c.in-Cur.is (search rules)
+returns-in-Ok-all2-3 c = line-read (nows c.args.words.now) c.args.kind TraceKind.Cur _ c.in-Cur.is (c.in-Ok-all2-3.ensures ∙ both-same c.name-in-Cur.ensures (both-same c.changed.ensures refl))
 
 pub returns-in-Err-all2-3 : goal.returns-in-Err-all2-3
-unfolding line_in
-returns-in-Err-all2-3 c = rw (c.in-Cur.is, ← c.name-in-Cur.ensures, ← c.changed.ensures, ← c.all2-in-Cur.ensures, c.in-Err-all2-3.is)
+returns-in-Err-all2-3 c = line-read (nows c.args.words.now) c.args.kind TraceKind.Cur _ c.in-Cur.is (c.in-Err-all2-3.ensures ∙ both-same c.name-in-Cur.ensures (both-same c.changed.ensures refl))
 
 pub returns-in-Ok-all2-4 : goal.returns-in-Ok-all2-4
-unfolding line_in
-returns-in-Ok-all2-4 c = rw c.in-Fire.is (search rules)
+returns-in-Ok-all2-4 c = line-read (nows c.args.words.now) c.args.kind TraceKind.Fire _ c.in-Fire.is (c.in-Ok-all2-4.ensures ∙ both-same c.name-in-Fire.ensures (both-same c.acted.ensures refl))
 
 pub returns-in-Err-all2-4 : goal.returns-in-Err-all2-4
-unfolding line_in
-returns-in-Err-all2-4 c = rw (c.in-Fire.is, ← c.name-in-Fire.ensures, ← c.acted.ensures, ← c.all2-in-Fire.ensures, c.in-Err-all2-4.is)
+returns-in-Err-all2-4 c = line-read (nows c.args.words.now) c.args.kind TraceKind.Fire _ c.in-Fire.is (c.in-Err-all2-4.ensures ∙ both-same c.name-in-Fire.ensures (both-same c.acted.ensures refl))
 
 pub returns-in-Ok-all1 : goal.returns-in-Ok-all1
-unfolding line_in
-returns-in-Ok-all1 c = rw c.in-Timeout.is (search rules)
+returns-in-Ok-all1 c = line-read (nows c.args.words.now) c.args.kind TraceKind.Timeout _ c.in-Timeout.is (c.in-Ok-all1.ensures ∙ both-same c.name-in-Timeout.ensures refl)
 
 pub returns-in-Err-all1 : goal.returns-in-Err-all1
-unfolding line_in
-returns-in-Err-all1 c = rw (c.in-Timeout.is, ← c.name-in-Timeout.ensures, ← c.all1-in-Timeout.ensures, c.in-Err-all1.is)
+returns-in-Err-all1 c = line-read (nows c.args.words.now) c.args.kind TraceKind.Timeout _ c.in-Timeout.is (c.in-Err-all1.ensures ∙ both-same c.name-in-Timeout.ensures refl)
 
 pub returns-in-Ok-all2-5 : goal.returns-in-Ok-all2-5
-unfolding line_in
-returns-in-Ok-all2-5 c = rw c.in-Rx.is (search rules)
+returns-in-Ok-all2-5 c = line-read (nows c.args.words.now) c.args.kind TraceKind.Rx _ c.in-Rx.is (c.in-Ok-all2-5.ensures ∙ both-same c.name-in-Rx.ensures (both-same c.received.ensures refl))
 
 pub returns-in-Err-all2-5 : goal.returns-in-Err-all2-5
-unfolding line_in
-returns-in-Err-all2-5 c = rw (c.in-Rx.is, ← c.name-in-Rx.ensures, ← c.received.ensures, ← c.all2-in-Rx.ensures, c.in-Err-all2-5.is)
+returns-in-Err-all2-5 c = line-read (nows c.args.words.now) c.args.kind TraceKind.Rx _ c.in-Rx.is (c.in-Err-all2-5.ensures ∙ both-same c.name-in-Rx.ensures (both-same c.received.ensures refl))
 
 pub returns-in-Ok-all2-6 : goal.returns-in-Ok-all2-6
-unfolding line_in
-returns-in-Ok-all2-6 c = rw c.in-Tx.is (search rules)
+returns-in-Ok-all2-6 c = line-read (nows c.args.words.now) c.args.kind TraceKind.Tx _ c.in-Tx.is (c.in-Ok-all2-6.ensures ∙ both-same c.name-in-Tx.ensures (both-same c.text.ensures refl))
 
 pub returns-in-Err-all2-6 : goal.returns-in-Err-all2-6
-unfolding line_in
-returns-in-Err-all2-6 c = rw (c.in-Tx.is, ← c.name-in-Tx.ensures, ← c.text.ensures, ← c.all2-in-Tx.ensures, c.in-Err-all2-6.is)
+returns-in-Err-all2-6 c = line-read (nows c.args.words.now) c.args.kind TraceKind.Tx _ c.in-Tx.is (c.in-Err-all2-6.ensures ∙ both-same c.name-in-Tx.ensures (both-same c.text.ensures refl))
 
 pub returns-in-Ok-all2-7 : goal.returns-in-Ok-all2-7
-unfolding line_in
-returns-in-Ok-all2-7 c = rw c.in-Sleep.is (search rules)
+returns-in-Ok-all2-7 c = line-read (nows c.args.words.now) c.args.kind TraceKind.Sleep _ c.in-Sleep.is (c.in-Ok-all2-7.ensures ∙ both-same c.mode.ensures (both-same c.number.ensures refl))
 
 pub returns-in-Err-all2-7 : goal.returns-in-Err-all2-7
-unfolding line_in
-returns-in-Err-all2-7 c = rw (c.in-Sleep.is, ← c.mode.ensures, ← c.number.ensures, ← c.all2-in-Sleep.ensures, c.in-Err-all2-7.is)
+returns-in-Err-all2-7 c = line-read (nows c.args.words.now) c.args.kind TraceKind.Sleep _ c.in-Sleep.is (c.in-Err-all2-7.ensures ∙ both-same c.mode.ensures (both-same c.number.ensures refl))
 
 pub returns-in-Ok-all1-2 : goal.returns-in-Ok-all1-2
-unfolding line_in
-returns-in-Ok-all1-2 c = rw c.in-Suspend.is (search rules)
+returns-in-Ok-all1-2 c = line-read (nows c.args.words.now) c.args.kind TraceKind.Suspend _ c.in-Suspend.is (c.in-Ok-all1-2.ensures ∙ both-same c.name-in-Suspend.ensures refl)
 
 pub returns-in-Err-all1-2 : goal.returns-in-Err-all1-2
-unfolding line_in
-returns-in-Err-all1-2 c = rw (c.in-Suspend.is, ← c.name-in-Suspend.ensures, ← c.all1-in-Suspend.ensures, c.in-Err-all1-2.is)
+returns-in-Err-all1-2 c = line-read (nows c.args.words.now) c.args.kind TraceKind.Suspend _ c.in-Suspend.is (c.in-Err-all1-2.ensures ∙ both-same c.name-in-Suspend.ensures refl)
 
 pub returns-in-Ok-all1-3 : goal.returns-in-Ok-all1-3
-unfolding line_in
-returns-in-Ok-all1-3 c = rw c.in-Resume.is (search rules)
+returns-in-Ok-all1-3 c = line-read (nows c.args.words.now) c.args.kind TraceKind.Resume _ c.in-Resume.is (c.in-Ok-all1-3.ensures ∙ both-same c.name-in-Resume.ensures refl)
 
 pub returns-in-Err-all1-3 : goal.returns-in-Err-all1-3
-unfolding line_in
-returns-in-Err-all1-3 c = rw (c.in-Resume.is, ← c.name-in-Resume.ensures, ← c.all1-in-Resume.ensures, c.in-Err-all1-3.is)
+returns-in-Err-all1-3 c = line-read (nows c.args.words.now) c.args.kind TraceKind.Resume _ c.in-Resume.is (c.in-Err-all1-3.ensures ∙ both-same c.name-in-Resume.ensures refl)
 
 pub returns-in-Ok-all1-4 : goal.returns-in-Ok-all1-4
-unfolding line_in
-returns-in-Ok-all1-4 c = rw c.in-Tick.is (search rules)
+returns-in-Ok-all1-4 c = line-read (nows c.args.words.now) c.args.kind TraceKind.Tick _ c.in-Tick.is (c.in-Ok-all1-4.ensures ∙ both-same c.number-in-Tick.ensures refl)
 
 pub returns-in-Err-all1-4 : goal.returns-in-Err-all1-4
-unfolding line_in
-returns-in-Err-all1-4 c = rw (c.in-Tick.is, ← c.number-in-Tick.ensures, ← c.all1-in-Tick.ensures, c.in-Err-all1-4.is)
+returns-in-Err-all1-4 c = line-read (nows c.args.words.now) c.args.kind TraceKind.Tick _ c.in-Tick.is (c.in-Err-all1-4.ensures ∙ both-same c.number-in-Tick.ensures refl)
 
 pub returns-in-Ok-all1-5 : goal.returns-in-Ok-all1-5
-unfolding line_in
-returns-in-Ok-all1-5 c = rw c.in-Print.is (search rules)
+returns-in-Ok-all1-5 c = line-read (nows c.args.words.now) c.args.kind TraceKind.Print _ c.in-Print.is (c.in-Ok-all1-5.ensures ∙ both-same c.text-in-Print.ensures refl)
 
 pub returns-in-Err-all1-5 : goal.returns-in-Err-all1-5
-unfolding line_in
-returns-in-Err-all1-5 c = rw (c.in-Print.is, ← c.text-in-Print.ensures, ← c.all1-in-Print.ensures, c.in-Err-all1-5.is)
+returns-in-Err-all1-5 c = line-read (nows c.args.words.now) c.args.kind TraceKind.Print _ c.in-Print.is (c.in-Err-all1-5.ensures ∙ both-same c.text-in-Print.ensures refl)
 
 pub returns-in-Ok-all1-6 : goal.returns-in-Ok-all1-6
-unfolding line_in
-returns-in-Ok-all1-6 c = rw c.in-Close.is (search rules)
+returns-in-Ok-all1-6 c = line-read (nows c.args.words.now) c.args.kind TraceKind.Close _ c.in-Close.is (c.in-Ok-all1-6.ensures ∙ both-same c.name-in-Close.ensures refl)
 
 pub returns-in-Err-all1-6 : goal.returns-in-Err-all1-6
-unfolding line_in
-returns-in-Err-all1-6 c = rw (c.in-Close.is, ← c.name-in-Close.ensures, ← c.all1-in-Close.ensures, c.in-Err-all1-6.is)
+returns-in-Err-all1-6 c = line-read (nows c.args.words.now) c.args.kind TraceKind.Close _ c.in-Close.is (c.in-Err-all1-6.ensures ∙ both-same c.name-in-Close.ensures refl)
 
 pub returns-in-Ok-all2-8 : goal.returns-in-Ok-all2-8
-unfolding line_in
-returns-in-Ok-all2-8 c = rw c.in-Own.is (search rules)
+returns-in-Ok-all2-8 c = line-read (nows c.args.words.now) c.args.kind TraceKind.Own _ c.in-Own.is (c.in-Ok-all2-8.ensures ∙ both-same c.name-in-Own.ensures (both-same c.name-in-Own-2.ensures refl))
 
 pub returns-in-Err-all2-8 : goal.returns-in-Err-all2-8
-unfolding line_in
-returns-in-Err-all2-8 c = rw (c.in-Own.is, ← c.name-in-Own.ensures, ← c.name-in-Own-2.ensures, ← c.all2-in-Own.ensures, c.in-Err-all2-8.is)
+returns-in-Err-all2-8 c = line-read (nows c.args.words.now) c.args.kind TraceKind.Own _ c.in-Own.is (c.in-Err-all2-8.ensures ∙ both-same c.name-in-Own.ensures (both-same c.name-in-Own-2.ensures refl))
 
 pub returns-in-Ok-all1-7 : goal.returns-in-Ok-all1-7
-unfolding line_in
-returns-in-Ok-all1-7 c = rw c.in-Mode.is (search rules)
+returns-in-Ok-all1-7 c = line-read (nows c.args.words.now) c.args.kind TraceKind.Mode _ c.in-Mode.is (c.in-Ok-all1-7.ensures ∙ both-same c.mode-in-Mode.ensures refl)
 
 pub returns-in-Err-all1-7 : goal.returns-in-Err-all1-7
-unfolding line_in
-returns-in-Err-all1-7 c = rw (c.in-Mode.is, ← c.mode-in-Mode.ensures, ← c.all1-in-Mode.ensures, c.in-Err-all1-7.is)
+returns-in-Err-all1-7 c = line-read (nows c.args.words.now) c.args.kind TraceKind.Mode _ c.in-Mode.is (c.in-Err-all1-7.ensures ∙ both-same c.mode-in-Mode.ensures refl)
 
 pub returns-in-Ok-stated : goal.returns-in-Ok-stated
 unfolding line_in

@@ -1,4 +1,6 @@
+use Rattle.std.proofs.Common.{◌∙◌, refl}
+use Rattle.rt_plain.proofs.RowLemmas.{both-same}
 use Rattle.journal.proofs.rows.stated.Goals as goal
 
 pub returns : goal.returns
-returns c = rw (← c.name.ensures, ← c.half.ensures, ← c.answered.ensures) c.all3.ensures
+returns c = c.all3.ensures ∙ both-same c.name.ensures (both-same c.half.ensures (both-same c.answered.ensures refl))
