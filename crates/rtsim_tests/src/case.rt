@@ -1,8 +1,7 @@
 use crate::outside::{GOOD, perform};
 use std::alloc::{AllocError, Global};
-use std::io;
 use std::io::Write;
-use std::str;
+use std::{io, str};
 
 /// The words of a command, and its file.
 #[derive(Drop)]

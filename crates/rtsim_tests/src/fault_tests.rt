@@ -56,7 +56,11 @@ fn little_room_and_a_failing_line(rt: HostRuntime) -> Result<(), Fail> {
     assert!(rt; small.status == 5 && small.out.bytes() == b"hib".as_slice());
     let exact = told(rt.alloc(), &["run", "b"], Outside { room: 5, ..GOOD })?;
     assert!(rt; exact.status == 0 && exact.out.bytes() == b"hibye".as_slice());
-    let silent = told(rt.alloc(), &["trace", "nofile"], Outside { line: 1, ..GOOD })?;
+    let silent = told(
+        rt.alloc(),
+        &["trace", "nofile"],
+        Outside { line: 1, ..GOOD },
+    )?;
     assert!(rt; silent.status == 3 && silent.err.bytes().is_empty());
     Ok(())
 }

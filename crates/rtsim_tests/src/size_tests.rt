@@ -57,7 +57,11 @@ fn talkative(alloc: Global, settings: &[u8], last: &[u8]) -> Result<Vec<u8>, All
 fn status_of_shown(rt: &HostRuntime, last: &[u8], bytes: usize) -> Result<u8, Fail> {
     let shown = talkative(rt.alloc(), SETTINGS, last)?;
     assert_eq!(rt; shown.len(), bytes);
-    let first = told(rt.alloc(), "show", &talkative(rt.alloc(), b"board 1\n", last)?)?;
+    let first = told(
+        rt.alloc(),
+        "show",
+        &talkative(rt.alloc(), b"board 1\n", last)?,
+    )?;
     assert_eq!(rt; first.status, 0);
     assert!(rt; first.out.bytes() == shown.as_slice());
     let again = told(rt.alloc(), "show", &shown)?;

@@ -1,7 +1,7 @@
-use serial_dev::Serial;
 use rand_core::SeedableRng;
 use rand_core::utils::NextWord;
 use rand_pcg::Pcg32;
+use serial_dev::Serial;
 use std::alloc::{AllocError, Global};
 use std::test::Fail;
 

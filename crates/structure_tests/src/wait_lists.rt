@@ -1,12 +1,12 @@
 ghost use Rattle.std.specs.Prelude.{◌≡◌, ◌<◌, length};
 
-use susp_list::{Row, SuspList};
 use rand_core::SeedableRng;
 use rand_core::utils::NextWord;
 use rand_pcg::Pcg32;
 use rt_base::{Prio, ThreadNo, WaitOrder};
 use std::process::Abort;
 use std::test::Fail;
+use susp_list::{Row, SuspList};
 
 // Whether a row comes before another one, told by keys.
 fn is_less(order: WaitOrder, i: usize, one: &Row, j: usize, other: &Row) -> bool {

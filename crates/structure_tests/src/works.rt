@@ -1,10 +1,10 @@
 ghost use Rattle.std.specs.Prelude.{◌≡◌};
 
-use soft_work::Works;
 use rand_core::SeedableRng;
 use rand_core::utils::NextWord;
 use rand_pcg::Pcg32;
 use rt_base::ObjNo;
+use soft_work::Works;
 use std::process::Abort;
 use std::test::Fail;
 

@@ -24,7 +24,9 @@ fn a_copy_is_the_same_board(rt: HostRuntime) -> Result<(), Fail> {
 #[test]
 fn what_is_shown_is_read_again(rt: HostRuntime) -> Result<(), Fail> {
     let board = read(rt.alloc(), BOARD)?;
-    let again = shown_boards_are_read(rt.alloc(), &board).ok().ok_or("not read")?;
+    let again = shown_boards_are_read(rt.alloc(), &board)
+        .ok()
+        .ok_or("not read")?;
     let shown = show(rt.alloc(), &again)?;
     assert!(rt; shown.as_slice() == BOARD);
     Ok(())

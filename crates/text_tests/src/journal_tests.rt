@@ -19,7 +19,12 @@ fn two_entries(alloc: Global) -> Result<Journal, Fail> {
 }
 
 // The trace of these entries, with these texts before them, between them and behind them.
-fn trace_with(alloc: Global, before: &[u8], between: &[u8], behind: &[u8]) -> Result<Vec<u8>, Fail> {
+fn trace_with(
+    alloc: Global,
+    before: &[u8],
+    between: &[u8],
+    behind: &[u8],
+) -> Result<Vec<u8>, Fail> {
     let mut trace = Vec::from_slice(alloc, before)?;
     trace.extend_from_slice(b"1 c0 @7\n  run A\n  print \"x\\n\"\n  print \"y\"\n")?;
     trace.extend_from_slice(between)?;
@@ -32,7 +37,9 @@ fn trace_with(alloc: Global, before: &[u8], between: &[u8], behind: &[u8]) -> Re
 fn a_journal_is_written(rt: HostRuntime) -> Result<(), Fail> {
     let journal = two_entries(rt.alloc())?;
     let trace = text(rt.alloc(), &journal, None, Some((Halt::Until, 8)))?;
-    assert!(rt; trace.as_slice() == trace_with(rt.alloc(), b"", b"", b"end until @8\n")?.as_slice());
+    assert!(rt;
+        trace.as_slice() == trace_with(rt.alloc(), b"", b"", b"end until @8\n")?.as_slice()
+    );
     let printed = console(rt.alloc(), &journal)?;
     assert!(rt; printed.as_slice() == b"x\ny".as_slice());
     Ok(())
@@ -57,7 +64,10 @@ fn a_journal_is_read_by_places(rt: HostRuntime) -> Result<(), Fail> {
 // Whether a cut behind so many entries, with these counts of two cores, is written as wanted and read over.
 fn is_cut_as(rt: &HostRuntime, at: u32, counts: &[u32], wanted: &[u8]) -> Result<bool, Fail> {
     let journal = two_entries(rt.alloc())?;
-    let mut cut = Cut { at, counts: ArrayVec::new() };
+    let mut cut = Cut {
+        at,
+        counts: ArrayVec::new(),
+    };
     let _ = cut.counts.try_extend_from_slice(counts);
     if cut.at > journal.entries() {
         return Ok(false);

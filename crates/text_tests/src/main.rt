@@ -26,7 +26,11 @@ fn main(rt: HostRuntime) -> io::Result<()> {
     let mut out = io::writer(&rt);
     for line in BufReader::new(alloc, rt.reader())?.split(alloc, b'\n') {
         let line = line?;
-        let sign: &[u8] = if has_form(alloc, &line)? { b"+ " } else { b"- " };
+        let sign: &[u8] = if has_form(alloc, &line)? {
+            b"+ "
+        } else {
+            b"- "
+        };
         out.write_all(sign)?;
         out.write_all(&line)?;
         out.write_all(b"\n")?;

@@ -101,9 +101,10 @@ IsIn-on_level level x (e ∷ es) h = by_test (is_on level e) refl h (IsIn-on_lev
 
 IsIn-kept : (level : ℕ) (x : Entry) (es : List Entry) → IsIn x es → is_on level x ≡ true → IsIn x (on_level level es)
 IsIn-kept level x [] h on = absurd h
-IsIn-kept level x (e ∷ es) h on = elim h as (λ _. IsIn x (on_level level (e ∷ es)))
-    [ inl same ↦ subst (IsIn x) (sym (if-true (is_on level e) _ _ (ap (is_on level) (sym same) ∙ on))) (inl same)
-    | inr there ↦ by_test (is_on level e) (IsIn-kept level x es there on) ]
+IsIn-kept level x (e ∷ es) h on = elim h as (λ _. IsIn x (on_level level (e ∷ es))) [
+  | inl same ↦ subst (IsIn x) (sym (if-true (is_on level e) _ _ (ap (is_on level) (sym same) ∙ on))) (inl same)
+  | inr there ↦ by_test (is_on level e) (IsIn-kept level x es there on)
+]
   where
     by_test : (b : Bool) → IsIn x (on_level level es) → IsIn x (cond b (e ∷ on_level level es) (on_level level es))
     by_test true k = inr k

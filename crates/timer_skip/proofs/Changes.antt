@@ -107,10 +107,11 @@ module _ {L : ℕ} where
   stop_there r level row key less h w =
       let l = has_last key w.front w.ends in
       let chain : IsChain (slot_at r level) (first_link r level) (w.front ++ w.rest) = subst (λ es. IsChain (slot_at r level) (first_link r level) es) w.parts (h.chain level less) in
-      let there = Each-front (λ (e : Entry). entry_at (slot_at r level) e.key ≡ Some e) w.front w.rest (backed (slot_at r level) (first_link r level) (w.front ++ w.rest) chain) in
-      (l.last,
-      sym (ap (entry_at (slot_at r level)) l.is) ∙ Each-one (λ (e : Entry). entry_at (slot_at r level) e.key ≡ Some e) l.last w.front there l.one,
-      Each-one (λ (e : Entry). sooner e.row row ≡ true) l.last w.front w.before l.one)
+      let there = Each-front (λ (e : Entry). entry_at (slot_at r level) e.key ≡ Some e) w.front w.rest (backed (slot_at r level) (first_link r level) (w.front ++ w.rest) chain) in (
+        l.last,
+        sym (ap (entry_at (slot_at r level)) l.is) ∙ Each-one (λ (e : Entry). entry_at (slot_at r level) e.key ≡ Some e) l.last w.front there l.one,
+        Each-one (λ (e : Entry). sooner e.row row ≡ true) l.last w.front w.before l.one,
+      )
 
   -- so it isn't a new one, nor one of the row itself
   stop_not_new : (r : Rows L) (level : ℕ) (row : ArmedRow) (key : ℕ) (last : Option ℕ) → level < L → IsLinked r → IsStop r level row last → get r.nodes key ≡ None → last ≡ Some key → ⊥
