@@ -49,7 +49,8 @@ impl<const L: usize> Timers<L> {
         requires near { after ≤ 2147483647 }
         requires latest { All (λ row. row.number < at) self.old.rows }
         ensures { self.new ≡ record self.old {
-            rows = self.old.rows ++ (record { left = after; number = at; timer = no }) ∷ [] } }
+          rows = self.old.rows ++ (record { left = after; number = at; timer = no }) ∷ [];
+        } }
     {
         self.rows.insert(no, after, at);
     }

@@ -18,13 +18,7 @@ const NEAR_THE_END: u32 = 4294967294;
 const BEFORE_THE_WRAP: u32 = 4294967196;
 
 // Arms a timer that isn't armed.
-fn arm<const L: usize>(
-    rt: &impl Abort,
-    timers: &mut Timers<L>,
-    no: u16,
-    after: u32,
-    at: u64,
-)
+fn arm<const L: usize>(rt: &impl Abort, timers: &mut Timers<L>, no: u16, after: u32, at: u64)
     requires below { no < timers.old.count }
     requires some { 1 ≤ after }
     requires near { after ≤ 2147483647 }
@@ -197,10 +191,7 @@ fn drain<const L: usize, M: Ledger>(
 }
 
 // Takes out the first row that is due.
-fn fire<const L: usize, M: Ledger>(
-    timers: &mut Timers<L>,
-    steps: &mut Steps<M>,
-) -> Option<TimerNo>
+fn fire<const L: usize, M: Ledger>(timers: &mut Timers<L>, steps: &mut Steps<M>) -> Option<TimerNo>
     ensures count { timers.new.count ≡ timers.old.count }
     ensures latest { (at : ℕ) → All (λ row. row.number < at) timers.old.rows
         → All (λ row. row.number < at) timers.new.rows }
