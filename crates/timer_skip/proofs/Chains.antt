@@ -1,5 +1,5 @@
 -- Nodes in a chain: what is found along it, and what follows where one link of it is another one.
-use Rattle.std.proofs.Common.{◌⊎◌, inl, inr, ◌||◌, zero, suc, ℕ, ◌≡◌, ◌≢◌, ◌+◌, ◌<◌, ◌≤◌, List, [], ◌∷◌, ◌++◌, length, filter, Bool, true, false, cond, nat_le, nat_lt, Option, Some, None, refl, sym, ap, ◌∙◌, subst, arith, append_assoc, length-append}
+use Rattle.std.proofs.Common.{inl, inr, ◌||◌, zero, suc, ℕ, ◌≡◌, ◌≢◌, ◌+◌, ◌<◌, ◌≤◌, List, [], ◌∷◌, ◌++◌, length, Bool, true, false, cond, Option, Some, None, refl, sym, ap, ◌∙◌, subst, arith}
 use Rattle.std.specs.List.{AllByRecursion, list_any, find}
 use Rattle.std.specs.Option.{option_map}
 use Rattle.std.proofs.lemmas.Bool.{false≢true}
@@ -99,23 +99,19 @@ IsIn-on_level level x (e ∷ es) h = by_test (is_on level e) refl h (IsIn-on_lev
     by_test true is k more = elim k as (λ _. IsIn x (e ∷ es) × (is_on level x ≡ true)) [ inl same ↦ (inl same, ap (is_on level) same ∙ is) | inr there ↦ (let w = more there in (inr w.0, w.1)) ]
     by_test false is k more = let w = more k in (inr w.0, w.1)
 
-IsIn-kept : (level : ℕ) (x : Entry) (es : List Entry) → IsIn x es → is_on level x ≡ true → IsIn x (on_level level es)
-IsIn-kept level x [] h on = absurd h
-IsIn-kept level x (e ∷ es) h on = elim h as (λ _. IsIn x (on_level level (e ∷ es))) [
-  | inl same ↦ subst (IsIn x) (sym (if-true (is_on level e) _ _ (ap (is_on level) (sym same) ∙ on))) (inl same)
-  | inr there ↦ by_test (is_on level e) (IsIn-kept level x es there on)
-]
+-- a level is a part of the one below, in the same order
+on_level-part : (level : ℕ) (es : List Entry) → on_level (level + 1) (on_level level es) ≡ on_level (level + 1) es
+on_level-part level [] = refl
+on_level-part level (e ∷ es) = by_test (is_on level e) refl (on_level-part level es)
   where
-    by_test : (b : Bool) → IsIn x (on_level level es) → IsIn x (cond b (e ∷ on_level level es) (on_level level es))
-    by_test true k = inr k
-    by_test false k = k
+    by_test : (b : Bool) → is_on level e ≡ b → on_level (level + 1) (on_level level es) ≡ on_level (level + 1) es
+        → on_level (level + 1) (cond b (e ∷ on_level level es) (on_level level es)) ≡ cond (is_on (level + 1) e) (e ∷ on_level (level + 1) es) (on_level (level + 1) es)
+    by_test true is k = ap (λ l. cond (is_on (level + 1) e) (e ∷ l) l) k
+    by_test false is k = k ∙ sym (if-false (is_on (level + 1) e) _ _ (grind (arith, nat_tests, is)))
 
--- it is on the level below, too
+-- so a node of a level is on the one below, too
 pub IsIn-below : (level : ℕ) (x : Entry) (es : List Entry) → IsIn x (on_level (level + 1) es) → IsIn x (on_level level es)
-IsIn-below level x es h =
-    let w = IsIn-on_level (level + 1) x es h in
-    let on = w.1 in
-    IsIn-kept level x es w.0 (grind (arith, nat_tests, on))
+IsIn-below level x es h = (IsIn-on_level (level + 1) x (on_level level es) (subst (IsIn x) (sym (on_level-part level es)) h)).0
 
 -- a chain is what is found along its links
 pub walk-is : (at : ℕ → Option Slot) (n : ℕ) (link : Option ℕ) (es : List Entry) → IsChain at link es → length es ≤ n → walk at n link ≡ es
@@ -325,7 +321,6 @@ not_numbered timer r e = grind (arith, nat_tests, e)
 pub record Found (at : ℕ → Option Slot) (timer key : ℕ) (es : List Entry) : Type 0 where
   pub entry : Entry
   pub there : entry_at at key ≡ Some entry
-  pub key_is : entry.key ≡ key
   pub is : entry.row.timer ≡ timer
   pub one : IsIn entry es
   pub first : find (is_row_of timer) (rows_of es) ≡ Some entry.row
@@ -341,7 +336,6 @@ found at timer key (f ∷ es) b e = by_test (is_row_of timer f.row) refl e (foun
         record {
           entry = f;
           there = ap (entry_at at) (sym same) ∙ b.0;
-          key_is = same;
           is = (numbered timer f.row).0 is;
           one = inl refl;
           first = if-true (is_row_of timer f.row) _ _ is;
@@ -352,7 +346,6 @@ found at timer key (f ∷ es) b e = by_test (is_row_of timer f.row) refl e (foun
         record {
           entry = w.entry;
           there = w.there;
-          key_is = w.key_is;
           is = w.is;
           one = inr w.one;
           first = if-false (is_row_of timer f.row) _ _ is ∙ w.first;

@@ -1,20 +1,20 @@
 -- What the steps of the skip list's calls come to.
-use Rattle.std.proofs.Common.{◌⊎◌, inl, inr, zero, suc, ℕ, ◌≡◌, ◌≢◌, ◌+◌, ◌-◌, ◌%◌, ◌<◌, ◌≤◌, List, [], ◌∷◌, ◌++◌, length, map, filter, Bool, true, false, cond, Option, Some, None, refl, sym, ap, ◌∙◌, subst, arith, set, get_or, replicate, slice_index_or, count_by, is_some, IsSome}
-use Rattle.std.specs.List.{AllByRecursion, list_any, find}
+use Rattle.std.proofs.Common.{inl, inr, zero, suc, ℕ, ◌≡◌, ◌≢◌, ◌+◌, ◌<◌, ◌≤◌, List, [], ◌∷◌, ◌++◌, length, map, Bool, true, false, cond, Option, Some, None, refl, sym, ap, ◌∙◌, subst, arith, set, get_or, replicate, count_by, is_some}
+use Rattle.std.specs.List.{AllByRecursion}
 use Rattle.std.specs.Option.{option_map}
 use Rattle.std.proofs.lemmas.Bool.{false≢true, cases_lt}
 use Rattle.std.proofs.lemmas.List.{length-map, length-replicate, get_or-replicate}
 use Rattle.std.proofs.lemmas.Nat.{mod_below}
-use Rattle.slab.specs.Slab.{Slab, slab_len, get, Updates, ContainsKey, HasRoomFor}
+use Rattle.slab.specs.Slab.{Slab, slab_len, get, Updates, HasRoomFor}
 use Rattle.timer_skip.specs.declared.node.Node.{Node}
 use Rattle.timer_skip.specs.declared.row.Row.{Row}
 use Rattle.timer_skip.specs.declared.rows.Rows.{Rows}
 use Rattle.timer_skip.specs.Armed.{ArmedRow, is_row_of, left_of, row_after, tick_after}
 use Rattle.timer_skip.specs.Firing.{armed_row, sooner, IsLine, IsAnew, put_row, take_out}
-use Rattle.timer_skip.specs.Links.{Slot, slot_of, slot_at, Entry, entry_of, entry_at, first_link, entries, rows_of, line, count, is_on, on_level, IsChain, IsIn, key_of, Links, IsLinked, next_of, link_on, last_key, IsStop, AreStops, AreLinks, SameLevel, SameRest, with_next, first_after, IsRelinked, AreRelinked}
+use Rattle.timer_skip.specs.Links.{Slot, slot_of, slot_at, Entry, entry_of, entry_at, first_link, entries, rows_of, line, count, is_on, on_level, IsChain, IsIn, key_of, IsLinked, next_of, IsStop, AreStops, AreLinks, SameLevel, SameRest, with_next, first_after, IsRelinked, AreRelinked}
 use Rattle.timer_skip.proofs.Lines.{has_room, IsLine-after}
-use Rattle.timer_skip.proofs.Chains.{backed, Each-front, Each-one, Each-of_rows, Each-on_level, on_level-lowest, has_last, HasLast, not_sooner, Found, found, none_beyond}
-use Rattle.timer_skip.proofs.Levels.{After, after, IsPut, IsApart, IsInserted, inserted, IsCut, IsRemoved, removed}
+use Rattle.timer_skip.proofs.Chains.{backed, Each-front, Each-one, Each-of_rows, Each-on_level, on_level-lowest, has_last, not_sooner, Found, found, none_beyond}
+use Rattle.timer_skip.proofs.Levels.{After, after, IsInserted, inserted, IsRemoved, removed}
 use Rattle.timer_skip.proofs.Wraps.{left-later}
 
 no_keys : ℕ → List (Option ℕ)
@@ -55,7 +55,7 @@ module _ {L : ℕ} where
   same_first : (a b : Rows L) → a.heads ≡ b.heads → (level : ℕ) → first_link a level ≡ first_link b level
   same_first a b heads level = ap (λ (l : List (Option ℕ)). get_or l level None) heads
 
-  -- a node's entry
+  -- what is found of a node
   pub entry_of_node : (r : Rows L) (level key : ℕ) (node : Node L) → get r.nodes key ≡ Some node
       → (let e : Entry = record { key = key; row = armed_row r.tick node.row; top = node.top } in entry_at (slot_at r level) key ≡ Some e)
   entry_of_node r level key node is = ap (λ n. option_map (entry_of key) (slot_of r.tick level n)) is
@@ -71,13 +71,6 @@ module _ {L : ℕ} where
       let nothing : entry_at (slot_at r 0) key ≡ None = ap (λ n. option_map (entry_of key) (slot_of r.tick 0 n)) none in
       let there : entry_at (slot_at r 0) key ≡ Some f.entry = f.there in
       let no_row : ⊥ = cc in no_row
-
-  pub contains : (r : Rows L) (timer key : ℕ) → IsLinked r → key_of timer (entries r) ≡ Some key → ContainsKey r.nodes key
-  contains r timer key h e = by_node (get r.nodes key) refl
-    where
-      by_node : (n : Option (Node L)) → get r.nodes key ≡ n → IsSome n
-      by_node None is = absurd (node_there r timer key h e is)
-      by_node (Some n) is = refl
 
   -- which is the timer's
   pub entry_found : (r : Rows L) (timer key : ℕ) (node : Node L) (h : IsLinked r) (e : key_of timer (entries r) ≡ Some key) → get r.nodes key ≡ Some node

@@ -1,8 +1,7 @@
 -- The levels of a skip list: how far a walk along one has come, and what stands on each once a node is put in or taken out.
-use Rattle.std.proofs.Common.{◌⊎◌, inl, inr, zero, suc, ℕ, ◌≡◌, ◌≢◌, ◌+◌, ◌<◌, ◌≤◌, List, [], ◌∷◌, ◌++◌, length, Bool, true, false, cond, nat_lt, nat_le, Option, Some, None, refl, sym, ap, ◌∙◌, subst, arith, set, get_or, get_or-set_other, get_or-set_same, append_assoc, length-append, length-set}
+use Rattle.std.proofs.Common.{ℕ, ◌≡◌, ◌≢◌, ◌+◌, ◌<◌, ◌≤◌, List, [], ◌∷◌, ◌++◌, length, Bool, true, false, nat_lt, Option, Some, None, refl, sym, ap, ◌∙◌, subst, arith, set, get_or, get_or-set_other, get_or-set_same, append_assoc, length-append, length-set}
 use Rattle.std.specs.List.{AllByRecursion}
 use Rattle.std.specs.Option.{option_map}
-use Rattle.std.proofs.lemmas.Bool.{false≢true, cases_lt}
 use Rattle.std.proofs.lemmas.Bool.Decides.{nat_tests}
 use Rattle.std.proofs.lemmas.List.{length-map}
 use native.Mathlib.Decide.{ℕ_discrete}
@@ -13,7 +12,7 @@ use Rattle.timer_skip.specs.Armed.{ArmedRow, is_row_of}
 use Rattle.timer_skip.specs.Firing.{sooner, FiresBefore, IsInOrder, IsLine, IsAnew, put_row, take_out}
 use Rattle.timer_skip.specs.Links.{Slot, slot_at, Entry, entry_of, entry_at, first_link, entries, rows_of, line, count, is_on, on_level, IsChain, IsIn, key_of, Links, IsLinked, next_of, link_on, is_before, IsFrom, IsEnd, last_key, IsBehind, IsStop, AreStops, with_next, first_after}
 use Rattle.timer_skip.proofs.Lines.{IsLine-put_row, IsLine-take_out, fits}
-use Rattle.timer_skip.proofs.Chains.{if-true, if-false, Each-front, Each-rest, Each-push, Each-more, Each-both, Each-of_rows, Each-on_level, Each-one, on_level-append, on_level-lowest, length-on_level, IsInOrder-on_level, IsIn-below, IsIn-front, walk-is, IsBacked, backed, HaveOwnKeys, own_keys, rest_chain, chain_same, relinked, own_front, last_apart, last_key-push, has_last, split, in_middle, in_more, in_less, fire_before, sooner_before, fires_sooner, not_sooner, one_part, level_part, is_numbered, Found, key_of-front, key_of-other, take_out-split, others_behind, rest_in_order, own_rest, decide, with_next-entry}
+use Rattle.timer_skip.proofs.Chains.{if-true, if-false, Each-front, Each-rest, Each-push, Each-more, Each-both, Each-of_rows, Each-on_level, Each-one, on_level-append, on_level-lowest, length-on_level, IsInOrder-on_level, IsIn-below, IsIn-front, walk-is, IsBacked, backed, HaveOwnKeys, own_keys, rest_chain, chain_same, relinked, own_front, last_apart, last_key-push, has_last, split, in_middle, in_more, in_less, fire_before, sooner_before, fires_sooner, not_sooner, level_part, is_numbered, Found, key_of-front, key_of-other, take_out-split, others_behind, rest_in_order, own_rest, decide, with_next-entry}
 
 -- how far a walk along a level has come
 pub record Reached {L : ℕ} (r : Rows L) (level : ℕ) (row : ArmedRow) (last : Option ℕ) (steps : ℕ) : Type 0 where

@@ -1,5 +1,5 @@
 -- Rows by their start numbers.
-use Rattle.std.proofs.Common.{ℕ, ◌≡◌, ◌≢◌, ◌<◌, List, [], ◌∷◌, ◌++◌, filter, Bool, true, false, cond, ◌||◌, ◌&&◌, nat_lt, Option, Some, refl, sym, ap, ◌∙◌, arith}
+use Rattle.std.proofs.Common.{◌≡◌, ◌≢◌, ◌<◌, List, [], ◌∷◌, ◌++◌, filter, Bool, true, false, cond, ◌||◌, ◌&&◌, nat_lt, Option, Some, refl, sym, ap, ◌∙◌, arith}
 use Rattle.std.specs.List.{AllByRecursion, list_any, find}
 use Rattle.std.proofs.lemmas.Bool.Decides.{nat_tests}
 use Rattle.timer_skip.specs.Armed.{ArmedRow, put_by_number, by_number}

@@ -1,5 +1,5 @@
 -- Ticks in 32 bits, and their differences.
-use Rattle.std.proofs.Common.{◌⊎◌, inl, inr, ℕ, ◌≡◌, ◌+◌, ◌-◌, ◌*◌, ◌/◌, ◌%◌, ◌<◌, ◌≤◌, ap, ◌∙◌, sym, arith}
+use Rattle.std.proofs.Common.{◌⊎◌, inl, inr, ℕ, ◌≡◌, ◌+◌, ◌-◌, ◌*◌, ◌/◌, ◌%◌, ◌<◌, ◌≤◌, ap, ◌∙◌, arith}
 use Rattle.std.proofs.lemmas.Bool.{cases_lt}
 use Rattle.std.proofs.lemmas.Nat.{div-add-mod', mod-mul-add, mod_below}
 
@@ -33,12 +33,4 @@ left-new tick n t k =
     elim (tick_later tick n t k) as (λ _. ((tick + n) % 4294967296 + (4294967296 - tick)) % 4294967296 ≡ n) [
       | inl w ↦ (let e = w.1 in wraps ((tick + n) % 4294967296 + (4294967296 - tick)) 1 n k (omega arith))
       | inr w ↦ (let e = w.1 in let f = w.0 in wraps ((tick + n) % 4294967296 + (4294967296 - tick)) 0 n k (omega arith))
-    ]
-
--- the tick and what is left of a due tick make it
-pub due-back : (due tick : ℕ) → tick < 4294967296 → due < 4294967296 → due ≡ (tick + (due + (4294967296 - tick)) % 4294967296) % 4294967296
-due-back due tick t d =
-    elim (cases_lt due tick) as (λ _. due ≡ (tick + (due + (4294967296 - tick)) % 4294967296) % 4294967296) [
-      | inl less ↦ (let e = wraps (due + (4294967296 - tick)) 0 (due + (4294967296 - tick)) (omega arith) (omega arith) in sym (wraps (tick + (due + (4294967296 - tick)) % 4294967296) 1 due d (omega arith)))
-      | inr more ↦ (let e = wraps (due + (4294967296 - tick)) 1 (due - tick) (omega arith) (omega arith) in sym (wraps (tick + (due + (4294967296 - tick)) % 4294967296) 0 due d (omega arith)))
     ]

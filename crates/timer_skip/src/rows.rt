@@ -1,9 +1,8 @@
-ghost use Rattle.std.specs.Prelude.{ℕ, ◌≡◌, ◌≢◌, ◌+◌, ◌%◌, ◌<◌, ◌≤◌, [], map, length, true, None, Some, slice_get, slice_index_or, IfOk, MatchOption};
-ghost use Rattle.std.specs.List.{find, list_any, AllByRecursion};
+ghost use Rattle.std.specs.Prelude.{ℕ, ◌≡◌, ◌≢◌, ◌+◌, ◌<◌, ◌≤◌, [], map, length, true, Some, slice_get, IfOk, MatchOption};
+ghost use Rattle.std.specs.List.{list_any, AllByRecursion};
 ghost use Rattle.std.specs.Option.{option_map};
 ghost use Rattle.slab.specs.Slab.{get};
 ghost use Rattle.timer_skip.specs.declared.node.Node.{Node};
-ghost use Rattle.timer_skip.specs.declared.row.Row.{Row};
 ghost use Rattle.timer_skip.specs.Armed.{ArmedRow, is_row_of, left_of, row_after, tick_after};
 ghost use Rattle.timer_skip.specs.Firing.{armed_row, sooner, put_row, take_out, IsAnew};
 ghost use Rattle.timer_skip.specs.Links.{IsLinked, line, count, slot_at, link_on, is_before, IsFrom, IsStop, IsEnd, AreStops, AreLinks, entries, key_of, SameLevel, SameRest, IsRelinked, AreRelinked};

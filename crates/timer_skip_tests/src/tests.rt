@@ -11,7 +11,7 @@ use std::sync::ledger::{Blank, Ledger};
 use std::test::Fail;
 use timer_skip::Timers;
 
-// The tick before the last two of 32 bits.
+// The last tick of 32 bits but one.
 const NEAR_THE_END: u32 = 4294967294;
 
 // A hundred ticks before the wrap.

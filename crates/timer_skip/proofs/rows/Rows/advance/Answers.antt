@@ -1,7 +1,5 @@
-use Rattle.std.proofs.Common.{refl, map, ◌+◌, ◌%◌}
+use Rattle.std.proofs.Common.{refl, ◌+◌, ◌%◌}
 use Rattle.timer_skip.specs.declared.rows.Rows.{Rows}
-use Rattle.timer_skip.specs.Armed.{row_after}
-use Rattle.timer_skip.specs.Links.{line}
 use Rattle.timer_skip.proofs.Changes.{advanced}
 use Rattle.timer_skip.proofs.rows.Rows.advance.Goals as goal
 

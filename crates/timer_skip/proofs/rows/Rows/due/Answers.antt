@@ -1,6 +1,6 @@
 use Rattle.std.proofs.Common.{rules, ◌≡◌, Some, None, sym, ap, ◌∙◌}
 use Rattle.std.specs.Option.{option_map}
-use Rattle.timer_skip.specs.Armed.{ArmedRow, left_of, tick_after}
+use Rattle.timer_skip.specs.Armed.{ArmedRow, tick_after}
 use Rattle.timer_skip.specs.Links.{entries, key_of}
 use Rattle.timer_skip.proofs.Chains.{none_found}
 use Rattle.timer_skip.proofs.Changes.{node_there, left_found}

@@ -1,4 +1,4 @@
-use Rattle.std.proofs.Common.{◌≡◌, ◌+◌, ◌%◌, Option, Some, ℕ, set, refl, ap}
+use Rattle.std.proofs.Common.{Some, set, refl, ap}
 use Rattle.std.specs.Vec.{with_item}
 use Rattle.timer_skip.specs.declared.rows.Rows.{Rows}
 use Rattle.timer_skip.specs.Armed.{ArmedRow}

@@ -2,8 +2,6 @@ use Rattle.std.proofs.Common.{rules, None, replicate, refl}
 use Rattle.std.proofs.lemmas.Grind.{common_steps}
 use Rattle.timer_skip.specs.declared.rows.Rows.{Rows}
 use Rattle.timer_skip.proofs.Changes.{none_linked}
-use Rattle.timer_skip.proofs.Levels.{After}
-use Rattle.timer_skip.proofs.rows.Rows.new.Given.{Over}
 use Rattle.timer_skip.proofs.rows.Rows.new.Goals as goal
 
 pub returns-clause-line : goal.returns-clause-line

@@ -1,4 +1,4 @@
-use Rattle.std.proofs.Common.{rules, ◌≡◌, ◌<◌, Option, Some, None, ℕ, length, set, refl, sym, subst, ap, ◌∙◌, arith}
+use Rattle.std.proofs.Common.{rules, ◌≡◌, ◌<◌, Some, None, length, set, refl, sym, subst, ap, ◌∙◌, arith}
 use Rattle.std.specs.Vec.{with_item}
 use Rattle.timer_skip.specs.declared.node.Node.{Node}
 use Rattle.timer_skip.specs.declared.rows.Rows.{Rows}
@@ -6,7 +6,7 @@ use Rattle.timer_skip.specs.Firing.{armed_row, take_out}
 use Rattle.timer_skip.specs.Links.{entries, key_of, line, AreStops}
 use Rattle.timer_skip.proofs.Chains.{none_found}
 use Rattle.timer_skip.proofs.Levels.{After}
-use Rattle.timer_skip.proofs.Changes.{node_there, contains, timer_below, found_in, removed_by, removed_node}
+use Rattle.timer_skip.proofs.Changes.{node_there, timer_below, found_in, removed_by, removed_node}
 use Rattle.timer_skip.proofs.rows.Rows.remove.Given.{Over}
 use Rattle.timer_skip.proofs.rows.Rows.remove.Goals as goal
 

@@ -1,9 +1,9 @@
-use Rattle.std.proofs.Common.{rules, ℕ, ◌≡◌, ◌<◌, ◌∷◌, ◌++◌, [], List, false, ◌∙◌, ap, arith}
+use Rattle.std.proofs.Common.{rules, ◌≡◌, ◌<◌, ◌∷◌, ◌++◌, [], List, false, ◌∙◌, ap, arith}
 use Rattle.std.specs.List.{All, AllByRecursion}
 use Rattle.std.proofs.lemmas.List.Elements.{recursion_from_All}
 use Rattle.timer_skip.specs.Armed.{Armed, ArmedRow, by_number, is_armed}
 use Rattle.timer_skip.specs.Firing.{IsAnew}
-use Rattle.timer_skip.specs.Links.{line, count}
+use Rattle.timer_skip.specs.Links.{line}
 use Rattle.timer_skip.proofs.Lines.{is_anew, started_last, armed-is}
 use Rattle.timer_skip.proofs.timers.Timers.start.Goals as goal
 

@@ -1,4 +1,4 @@
-use Rattle.std.proofs.Common.{◌≡◌, ◌∙◌, sym, ap}
+use Rattle.std.proofs.Common.{◌∙◌, sym, ap}
 use Rattle.timer_skip.specs.Armed.{Armed, is_armed, is_row_of, by_number, without}
 use Rattle.timer_skip.specs.Links.{line}
 use Rattle.timer_skip.proofs.Starts.{any-by_number}

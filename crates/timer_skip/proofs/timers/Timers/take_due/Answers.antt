@@ -1,4 +1,4 @@
-use Rattle.std.proofs.Common.{rules, ◌≡◌, ◌≢◌, ◌<◌, ◌∷◌, [], List, ℕ, Some, None, slice_get, drop, map, refl, ◌∙◌, sym, ap, subst, arith}
+use Rattle.std.proofs.Common.{rules, ◌≡◌, ◌<◌, ◌∷◌, [], List, Some, None, slice_get, drop, map, refl, ◌∙◌, sym, ap, arith}
 use Rattle.timer_skip.specs.Armed.{Armed, ArmedRow, by_number, due_rows, without}
 use Rattle.timer_skip.specs.Firing.{armed_row, take_out, IsInOrder}
 use Rattle.timer_skip.specs.Links.{line}
