@@ -63,11 +63,11 @@ impl<K: Nested> LockTable<K> {
         ensures seat { (result.me.0.live ≡ true) × (result.me.0.holding ≡ false) }
         ensures took { TookIn result.table_id passes result.me.0 }
     {
-        let mut passes = passes;
-        let last = passes.pop();
+        let mut others = passes;
+        let last = others.pop();
         let Some(pass) = last else { unreachable!() };
         let mut seat = pass.into_seat();
-        self.take_in(&mut seat, passes);
+        self.take_in(&mut seat, others);
         seat
     }
 

@@ -7,14 +7,14 @@ use cpus_lock::{CpusLock, Enter, Nest, Nested, Pass};
 use rt_base::{CoreNo, List};
 use std::alloc::Global;
 
-// A mark that a core made, numbered from 0 on for each core.
+/// A mark that a core made, numbered from 0 on for each core.
 #[derive(Clone, Copy, PartialEq, Eq, Debug)]
 pub struct Mark {
     pub core: CoreNo,
     pub number: u32,
 }
 
-// The value that is locked: a nest, and the marks of all cores.
+/// The value that is locked: a nest, and the marks of all cores.
 #[derive(Drop)]
 pub struct Diary {
     pub nest: Nest,
@@ -34,7 +34,7 @@ impl Nested for Diary {
 }
 
 impl Diary {
-    // One mark more. False is want of memory.
+    /// One mark more. False is want of memory.
     pub fn mark(&mut self, core: CoreNo, number: u32) -> bool
         ensures log { GrowsBy core (map (λ mark. Step mark.core) self.old.marks) (map (λ mark. Step mark.core) self.new.marks) }
         ensures nest { self.new.nest ≡ self.old.nest }
@@ -42,7 +42,7 @@ impl Diary {
         self.marks.push(Mark { core, number }).is_ok()
     }
 
-    // How many marks are a core's. None where they aren't numbered in order.
+    /// How many marks are a core's. None where they aren't numbered in order.
     pub fn marks_of(&self, core: CoreNo) -> Option<u32> {
         let mut next = 0u32;
         for mark in self.marks.as_slice() {
@@ -57,14 +57,14 @@ impl Diary {
     }
 }
 
-// A core's pass, and how many marks it has made.
+/// A core's pass, and how many marks it has made.
 #[derive(Drop)]
 pub struct Worker {
     pub pass: Pass,
     pub marks: u32,
 }
 
-// A lock for two cores, and their passes.
+/// A lock for two cores, and their passes.
 pub fn lock_of_two(alloc: Global, value: Diary) -> Option<(CpusLock<Diary>, Pass, Pass)>
     requires nest { IsNestBelow 2 (holder_of value.nest) }
     requires marks { value.marks ≡ [] }
@@ -81,7 +81,7 @@ pub fn lock_of_two(alloc: Global, value: Diary) -> Option<(CpusLock<Diary>, Pass
     Some((lock, first, second))
 }
 
-// The value back from both passes. None is want of memory.
+/// The value back from both passes. None is want of memory.
 pub fn value_back(alloc: Global, lock: CpusLock<Diary>, first: Pass, second: Pass) -> Option<Diary>
     requires cores { lock.cores ≡ 2 }
     requires first { (first.lock ≡ lock) × (first.known.core ≡ 0) }
@@ -116,7 +116,7 @@ fn turn(lock: &CpusLock<Diary>, worker: Worker) -> Worker
     }
 }
 
-// A hundred tries.
+/// A hundred tries.
 pub fn hundred_turns(lock: &CpusLock<Diary>, worker: Worker) -> Worker
     requires { worker.pass.lock ≡ lock.now }
     ensures { (result.pass.lock ≡ lock.now) × (result.pass.known.core ≡ worker.pass.known.core) }
