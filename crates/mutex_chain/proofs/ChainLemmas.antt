@@ -43,9 +43,6 @@ not_not : (b : Bool) → not b ≡ false → b ≡ true
 not_not true e = refl
 not_not false e = absurd (false≢true (sym e))
 
-blocked_within : (g : Graph) (y v : ℕ) → ((x t : ℕ) → blocker_of g x ≡ Some t → t < length g.blockers) → blocker_of g y ≡ Some v → v < length g.blockers
-blocked_within g y v within e = within y v e
-
 fewer_unmet : (g : Graph) (seen : List ℕ) (t : ℕ) → t < length g.blockers → is_among seen t ≡ false → length (unmet g (seen ++ t ∷ [])) < length (unmet g seen)
 fewer_unmet g seen t h e =
     ⊎_elim (λ same. absurd (false≢true (sym (ap not last) ∙ sym (same t (omega arith) (omega arith)) ∙ ap not e))) (λ less. less)

@@ -10,9 +10,9 @@ use Rattle.std.proofs.lemmas.List.{get_or_past}
 use Rattle.rt_base.specs.declared.codes.WaitOrder.{WaitOrder}
 use Rattle.rt_plain.specs.State.{is_among}
 use Rattle.rt_plain.specs.Waiting.{Waiter, stands_before, put_in_order, in_order}
-use Rattle.rt_plain.specs.Ownership.{Ownership, Member, MutexWait, Taken, member_at, wait_of, awaited_in, taken_of, owner_in, owned_in, wait_row, waiters_in, wait_rows_in, first_in, with_member, with_base, with_wait, base_edit, wait_edit, leave_edit, leave_edits, with_mutex_free, with_mutex_got, with_taken_times, take_edit, take_edit_of, pass_edit_to, pass_edit, pass_edits, release_edit, release_edit_of, kill_mutex_edit, kill_thread_edit}
+use Rattle.rt_plain.specs.Ownership.{Ownership, Member, MutexWait, Taken, member_at, wait_of, awaited_in, taken_of, owner_in, owned_in, wait_row, waiters_in, wait_rows_in, first_in, with_member, with_wait, leave_edit, leave_edits, with_mutex_free, with_mutex_got, with_taken_times, take_edit, take_edit_of, pass_edit_to, pass_edit, pass_edits, release_edit, release_edit_of, kill_mutex_edit, kill_thread_edit}
 use Rattle.mutex_chain.specs.Owners.{AreOwned}
-use Rattle.mutex_chain.specs.Graph.{row_in, IsOther}
+use Rattle.mutex_chain.specs.Graph.{row_in}
 use Rattle.mutex_chain.proofs.OwnerLemmas.{others}
 use Rattle.mutex_chain.proofs.HolderLemmas.{owner_among, others_other, same_owner}
 use Rattle.mutex_chain.proofs.CurLemmas.{awaited_by}
@@ -23,9 +23,6 @@ use Rattle.mutex_chain.proofs.TouchLemmas.{leaves_taken}
 -- nobody waits for a mutex anew, and no awaited mutex loses its owner
 kept_owned : (o p : Ownership) → ((t m : ℕ) → awaited_in p t ≡ Some m → (awaited_in o t ≡ Some m) × (owner_in o m ≢ None → owner_in p m ≢ None)) → AreOwned o → AreOwned p
 kept_owned o p f a t m e = (f t m e).1 (a t m (f t m e).0)
-
-pub owned_nobody : (o : Ownership) → ((t : ℕ) → member_at o t ≡ None) → AreOwned o
-owned_nobody o nobody t m e = absurd (none-some m (sym (ap awaited_by (nobody t)) ∙ e))
 
 -- another row of a thread, which waits on nothing new
 owned_row : (o : Ownership) (t : ℕ) (row : Option Member) → ((m : ℕ) → awaited_by row ≡ Some m → awaited_in o t ≡ Some m) → AreOwned o → AreOwned (with_member o t row)
@@ -39,19 +36,8 @@ owned_row o t row f a = kept_owned o (with_member o t row) (λ x m e. (by_place 
         absurd (none-some m (sym (ap awaited_by (get_or_past (slice_set o.members t row) x None long)) ∙ e))
     by_place x m e (inr ne) h = sym (ap awaited_by (get_or-set_other o.members t x row None ne)) ∙ e
 
--- a thread comes, or goes
-pub owned_idle : (o : Ownership) (t base : ℕ) → AreOwned o → AreOwned (with_member o t (Some (record { base = base; wait = None })))
-owned_idle o t base a = owned_row o t (Some (record { base = base; wait = None })) (λ m e. absurd (none-some m e)) a
-
 owned_gone : (o : Ownership) (t : ℕ) → AreOwned o → AreOwned (with_member o t None)
 owned_gone o t a = owned_row o t None (λ m e. absurd (none-some m e)) a
-
-pub owned_base : (o : Ownership) (t base : ℕ) → AreOwned o → AreOwned (base_edit t base o)
-owned_base o t base a = owned_row o t (option_map (with_base base) (member_at o t)) (λ m e. sym (same (member_at o t)) ∙ e) a
-  where
-    same : (m : Option Member) → awaited_by (option_map (with_base base) m) ≡ awaited_by m
-    same None = refl
-    same (Some m) = refl
 
 left_awaits : (m : Option Member) → awaited_by (option_map (with_wait None) m) ≡ None
 left_awaits None = refl
@@ -59,29 +45,6 @@ left_awaits (Some m) = refl
 
 pub owned_leave : (o : Ownership) (t : ℕ) → AreOwned o → AreOwned (leave_edit t o)
 owned_leave o t a = owned_row o t (option_map (with_wait None) (member_at o t)) (λ m e. absurd (none-some m (sym (left_awaits (member_at o t)) ∙ e))) a
-
-is_other : (t : ℕ) (owner : Option ℕ) → IsOther t owner → owner ≢ None
-is_other t None h = absurd h
-is_other t (Some u) h = λ e. none-some u (sym e)
-
-pub owned_wait : (o : Ownership) (t mutex at : ℕ) → IsOther t (owner_in o mutex) → AreOwned o → AreOwned (wait_edit t mutex at o)
-owned_wait o t mutex at other a x m e = by_place (cases_eq x t) (cases_lt t (length o.members))
-  where
-    row : Option Member
-    row = option_map (with_wait (Some (record { mutex = mutex; number = at }))) (member_at o t)
-
-    awaits : (r : Option Member) → awaited_by (option_map (with_wait (Some (record { mutex = mutex; number = at }))) r) ≡ Some m → mutex ≡ m
-    awaits None f = absurd (none-some m f)
-    awaits (Some r) f = cc
-
-    by_place : (x ≡ t) ⊎ (x ≢ t) → (t < length o.members) ⊎ (length o.members ≤ t) → owner_in o m ≢ None
-    by_place (inl same) (inl h) =
-        let mutex_is : mutex ≡ m = awaits (member_at o t) (sym (ap awaited_by (get_or-set_same o.members t row None h)) ∙ sym (ap (awaited_in (wait_edit t mutex at o)) same) ∙ e) in
-        rw (← mutex_is) (is_other t (owner_in o mutex) other)
-    by_place (inl same) (inr h) =
-        let long : length (slice_set o.members t row) ≤ x = omega (arith, length-set o.members t row) in
-        absurd (none-some m (sym (ap awaited_by (get_or_past (slice_set o.members t row) x None long)) ∙ e))
-    by_place (inr ne) h = a x m (sym (ap awaited_by (get_or-set_other o.members t x row None ne)) ∙ e)
 
 -- the owner of another mutex than the one that is got
 pub got_other : (o : Ownership) (m t k : ℕ) → k ≢ m → owner_in (with_mutex_got m t o) k ≡ owner_in o k

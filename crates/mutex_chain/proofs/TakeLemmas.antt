@@ -1,13 +1,14 @@
--- A mutex that is got makes its owner more urgent, and no other take changes who is how urgent.
+-- A mutex that is got makes its owner more urgent, and no other take changes who is how urgent; nor does a release that isn't the last one.
 use Rattle.std.proofs.Common.{ℕ, ◌≡◌, ◌≢◌, ◌+◌, ◌<◌, ◌≤◌, List, [], ◌∷◌, length, map, Bool, true, false, cond, ◌&&◌, not, eqb, Option, Some, None, refl, sym, ap, ◌∙◌, arith, ◌⊎◌, inl, inr}
-use Rattle.std.specs.Prelude.{min, fold, filter, nat_lt, slice_index_or, ◌==◌}
+use Rattle.std.specs.Prelude.{min, fold, filter, nat_lt, slice_index_or, ◌==◌, ◌-◌}
 use Rattle.std.specs.List.{filter_map, cons_option}
 use Rattle.std.specs.Option.{is_some, option_map, option_and_then}
 use Rattle.std.specs.Bool.{then_some}
 use Rattle.std.proofs.lemmas.Bool.{cases_eq, cases_lt, ne_eqb, eq-eqb, false≢true}
 use Rattle.std.proofs.lemmas.Option.{none-some}
-use Rattle.rt_plain.specs.Ownership.{Ownership, Taken, member_at, base_of, awaited_in, taken_of, owner_in, owned_in, member_urgency, with_mutex_got, with_taken_times, take_edit, take_edit_of}
+use Rattle.rt_plain.specs.Ownership.{Ownership, Taken, member_at, base_of, awaited_in, taken_of, owner_in, owned_in, member_urgency, with_mutex_got, with_taken_times, take_edit, take_edit_of, pass_edit, release_edit, release_edit_of}
 use Rattle.mutex_chain.specs.Owners.{IsSound, AreOwned, blocker_in, ceiling_at}
+use Rattle.mutex_chain.specs.Graph.{is_last}
 use Rattle.mutex_chain.specs.Equations.{Touches, IsTouched}
 use Rattle.mutex_chain.specs.Walks.{curs_of}
 use Rattle.mutex_chain.specs.Raising.{IsRaising, Strengthens}
@@ -116,3 +117,21 @@ got_by true None t e = refl
 got_by false None t e = absurd (false≢true e)
 got_by true (Some u) t e = absurd (false≢true (sym e))
 got_by false (Some u) t e = refl
+
+-- a release that isn't the last one touches nobody
+still_release : (o : Ownership) (t m : ℕ) → is_last t (taken_of o m) ≡ false → Touches [] o (release_edit t m o)
+still_release o t m e = by_row (taken_of o m) e
+  where
+    by_tests : (h : Taken) (b c : Bool) → (b && not c) ≡ false → Touches [] o (cond b (cond c (with_taken_times m (h.hold - 1) o) (pass_edit m o)) o)
+    by_tests h true true f = touches_hold [] m (h.hold - 1) o
+    by_tests h true false f = absurd (false≢true (sym f))
+    by_tests h false c f = touches_nothing [] o
+
+    by_row : (r : Option Taken) → is_last t r ≡ false → Touches [] o (release_edit_of t m r o)
+    by_row None f = touches_nothing [] o
+    by_row (Some h) f = by_tests h (h.owner == t) (nat_lt 1 h.hold) f
+
+pub release_raises : (o p : Ownership) (curs : List ℕ) (t m number : ℕ) → IsSound o → IsSound p → curs ≡ curs_of o → p ≡ release_edit t m o → is_last t (taken_of o m) ≡ false → IsRaising p curs None number
+release_raises o p curs t m number s k now e last =
+    let sound : IsSound (release_edit t m o) = rw (← e) k in
+    rw e (raises o (release_edit t m o) curs None number s sound now (still o (release_edit t m o) number (still_release o t m last)))

@@ -45,6 +45,11 @@ abbrev pub released_of : ℕ → Option Taken → Option ℕ → Released
 released_of t None first = Released.NotOwner None
 released_of t (Some h) first = if h.owner == t then (if nat_lt 1 h.hold then Released.Held (h.hold - 1) else passed_of first) else Released.NotOwner (Some h.owner)
 
+-- whether a thread has taken the mutex just once
+abbrev pub is_last : ℕ → Option Taken → Bool
+is_last t None = false
+is_last t (Some h) = (h.owner == t) && not (nat_lt 1 h.hold)
+
 -- another thread owns the mutex
 abbrev pub IsOther : ℕ → Option ℕ → Type 0
 IsOther t None = ⊥

@@ -257,6 +257,12 @@ impl MutexGraph {
         ensures changes { out.new ≡ record out.old { changes = changes self.old self.new } }
     {
         steps.tick();
+        if !self.owners.is_last_hold(thread, mutex) {
+            let released = self.owners.release(thread, mutex, None);
+            self.owners.know_sound();
+            strengthen(&self.owners, &mut self.curs, None, 0, out, steps);
+            return released;
+        }
         let first = first_waiter(&self.owners, &self.curs, mutex);
         let released = self.owners.release(thread, mutex, first);
         renew(&self.owners, &mut self.curs, &mut self.before, out);

@@ -3,7 +3,7 @@ ghost use Rattle.std.specs.List.{find};
 ghost use Rattle.std.specs.Option.{is_some, option_map};
 ghost use Rattle.rt_plain.specs.Ownership.{base_of, member_at, taken_of, member_urgency, owned_in, owner_in, with_member, base_edit, member_edit, with_wait, with_mutex_free, with_mutex_got, with_taken_times, wait_of, take_edit, pass_edit_to, first_in, release_edit};
 ghost use Rattle.rt_plain.specs.Waiting.{head_of};
-ghost use Rattle.mutex_chain.specs.Graph.{took_of, released_of, row_in, waiter_with};
+ghost use Rattle.mutex_chain.specs.Graph.{is_last, took_of, released_of, row_in, waiter_with};
 ghost use Rattle.mutex_chain.specs.Owners.{IsSound, has_thread, has_mutex, ceiling_at, blocker_in, with_hold};
 
 use crate::answers::{Released, Took};
@@ -302,10 +302,20 @@ impl Owners {
         }
     }
 
-    // A thread releases a mutex with this first waiter.
+    // Whether a thread owns a mutex and has taken it just once.
+    pub fn is_last_hold(&self, thread: ThreadNo, mutex: ObjNo) -> bool
+        ensures { result ≡ is_last thread (taken_of self.now mutex) }
+    {
+        match self.taken(mutex) {
+            None => false,
+            Some(row) => row.owner.0 == thread.0 && row.hold <= 1,
+        }
+    }
+
+    // A thread releases a mutex. Where it does so for the last time, this is the first waiter.
     pub fn release(&mut self, thread: ThreadNo, mutex: ObjNo, first: Option<ThreadNo>) -> Released
         requires mutex { mutex < length self.old.ceilings }
-        requires first { first ≡ first_in self.old mutex }
+        requires first { IsTrue (is_last thread (taken_of self.old mutex)) → first ≡ first_in self.old mutex }
         requires within { IfSome first (λ t. t < length self.old.members) }
         ensures answer { result ≡ released_of thread (taken_of self.old mutex) (first_in self.old mutex) }
         ensures edit { self.new ≡ release_edit thread mutex self.old }
