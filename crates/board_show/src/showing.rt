@@ -16,18 +16,34 @@ use rt_base::{List, Prio};
 use rt_plain::{Board, LimitClass, Limits};
 use std::alloc::{AllocError, Global};
 
+// The head, and what the cores are.
 #[tactic(auto, unfolding(crate::specs::Writing::whole_line))]
-fn put_settings(out: &mut List<u8>, board: &Board) -> Result<(), AllocError>
-    ensures { OnOk result (out.new ≡ line_by_line out.old (setting_lines board.now)) }
+fn put_cores(out: &mut List<u8>, board: &Board) -> Result<(), AllocError>
+    ensures { OnOk result (out.new ≡ (((out.old ++ whole_line (said.Version 1)) ++ whole_line (said.Cores board.now.cores)) ++ whole_line (said.Levels board.now.levels)) ++ whole_line (said.Tickless board.now.tickless)) }
 {
     put_line(out, b"board", &[Shown::Number(1)])?;
     put_line(out, b"cores", &[byte(&board.cores)])?;
     put_line(out, b"levels", &[half(&board.levels)])?;
-    put_line(out, b"tickless", &[on_off(&board.tickless)])?;
+    put_line(out, b"tickless", &[on_off(&board.tickless)])
+}
+
+// How long a run and a sleep may be.
+#[tactic(auto, unfolding(crate::specs::Writing::whole_line))]
+fn put_lengths(out: &mut List<u8>, board: &Board) -> Result<(), AllocError>
+    ensures { OnOk result (out.new ≡ (((out.old ++ whole_line (said.Until board.now.until)) ++ whole_line (said.Entries board.now.entries)) ++ whole_line (said.LpMax board.now.lpmax)) ++ whole_line (said.Thresh board.now.thresh)) }
+{
     put_line(out, b"until", &[number(&board.until)])?;
     put_line(out, b"entries", &[number(&board.entries)])?;
     put_line(out, b"lpmax", &[number(&board.lpmax)])?;
-    put_line(out, b"thresh", &[number(&board.thresh)])?;
+    put_line(out, b"thresh", &[number(&board.thresh)])
+}
+
+#[tactic(auto, unfolding(crate::specs::Writing::whole_line))]
+fn put_settings(out: &mut List<u8>, board: &Board) -> Result<(), AllocError>
+    ensures { OnOk result (out.new ≡ line_by_line out.old (setting_lines board.now)) }
+{
+    put_cores(out, board)?;
+    put_lengths(out, board)?;
     put_line(out, b"default", &[mode(&board.default_mode)])?;
     put_schedule(out, &board.schedule)
 }

@@ -1,5 +1,5 @@
 -- What a line prints.
-use Rattle.std.proofs.Common.{◌≡◌, ℕ, List, ◌++◌, [], refl, sym, append-nil}
+use Rattle.std.proofs.Common.{◌≡◌, ℕ, List, ◌++◌, refl, sym, append-nil}
 use Rattle.rt_base.specs.declared.text.Text.{Text}
 use Rattle.rt_plain.specs.declared.line.Line.{Line}
 use Rattle.rt_plain.specs.Texts.{printed_by}
