@@ -1,4 +1,4 @@
-ghost use Rattle.std.specs.Prelude.{⊥, ◌≡◌, ◌↔◌, ◌<◌, ◌≤◌, IfOk, IfErr, IsErrOf, IsSome, true, false, length};
+ghost use Rattle.std.specs.Prelude.{◌≡◌, ◌↔◌, ◌<◌, ◌≤◌, IfOk, IfErr, IsErrOf, IsSome, true, false, length};
 ghost use Rattle.rt_plain.specs.declared.board.Schedule.TheVariants.{Round};
 ghost use Rattle.rt_plain.specs.Runs.{is_over, opened};
 ghost use Rattle.rt_plain.specs.Schedules.{scheduled_course, moved, is_stopped};
