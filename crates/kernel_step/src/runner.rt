@@ -58,20 +58,19 @@ fn turn<L: Ledger>(machine: &mut Machine, left: u8, steps: &mut Steps<L>) -> Res
     }
 }
 
-// The machine after the run of a board that is built, up to its halt or a limit.
-fn drive<L: Ledger>(machine: Machine, steps: &mut Steps<L>) -> Result<Machine, AllocError>
-    requires opened { machine.course ≡ opened machine.board }
-    ensures board { IfOk result (λ m. m.board ≡ machine.board) }
-    ensures run { IfOk result (λ m. m.course ≡ run_of machine.board) }
-    ensures stopped { IfOk result (λ m. is_stopped (is_over machine.board) m.course ≡ true) }
+// Drives a machine from its opening up to its halt or a limit.
+fn drive<L: Ledger>(machine: &mut Machine, steps: &mut Steps<L>) -> Result<(), AllocError>
+    requires opened { machine.old.course ≡ opened machine.old.board }
+    ensures board { machine.new.board ≡ machine.old.board }
+    ensures run { IfOk result (λ _. machine.new.course ≡ run_of machine.old.board) }
+    ensures stopped { IfOk result (λ _. is_stopped (is_over machine.old.board) machine.new.course ≡ true) }
 {
-    let mut machine = machine;
     machine.facts();
     let mut left = machine.pace();
     while !machine.has_stopped() {
-        left = turn(&mut machine, left, steps)?;
+        left = turn(machine, left, steps)?;
     }
-    Ok(machine)
+    Ok(())
 }
 
 // The machine at the opening of a board.
@@ -106,6 +105,20 @@ fn limit_met(machine: &Machine) -> Result<(), RunFault>
     }
 }
 
+// Makes the run of an opened machine's board.
+fn make_run<L: Ledger>(machine: &mut Machine, steps: &mut Steps<L>) -> Result<(), RunFault>
+    requires opened { machine.old.course ≡ opened machine.old.board }
+    ensures board { machine.new.board ≡ machine.old.board }
+    ensures run { IfOk result (λ _. machine.new.course ≡ run_of machine.old.board) }
+    ensures halted { IfOk result (λ _. IsSome machine.new.course.halt) }
+    ensures complete { IfOk result (λ _. HasCompleted machine.new.board machine.new.course) }
+    ensures limit { IfErr result (MeetsLimit machine.old.board) }
+    ensures known { IsErrOf result RunFault.Later → ⊥ }
+{
+    drive(machine, steps)?;
+    limit_met(machine)
+}
+
 // The run by the board's schedule, counted.
 fn run_counted<L: Ledger>(
     alloc: Global,
@@ -120,8 +133,8 @@ fn run_counted<L: Ledger>(
     ensures later { IsErrOf result RunFault.Later ↔ (is_built board ≡ false) }
     ensures limit { IfErr result (MeetsLimit board) }
 {
-    let machine = drive(open(alloc, board)?, steps)?;
-    limit_met(&machine)?;
+    let mut machine = open(alloc, board)?;
+    make_run(&mut machine, steps)?;
     Ok(machine)
 }
 

@@ -13,7 +13,7 @@ pub loop-machine-preserved : goal.loop-machine-preserved
 loop-machine-preserved g c =
     let way = c.loop-machine.invariant in
     let gone = going c.loop-machine.machine.board c.loop-machine.machine.course (sym c.has_stopped.ensures ∙ c.loop-machine-test.true) in
-    let over : is_over c.args.machine.board c.loop-machine.machine.course.journal ≡ false = subst (λ (b : PlainBoard). is_over b c.loop-machine.machine.course.journal ≡ false) way.board gone.1 in
+    let over : is_over c.args.machine.now.board c.loop-machine.machine.course.journal ≡ false = subst (λ (b : PlainBoard). is_over b c.loop-machine.machine.course.journal ≡ false) way.board gone.1 in
     on_way-turn _ _ _ _ _ way gone.0 over c.in_ok-left.ensures.turned c.in_ok-left.ensures.board c.in_ok-left.ensures.period c.in_ok-left.ensures.few c.in_ok-left.ensures.fewer
 
 pub returns-clause-run : goal.returns-clause-run
