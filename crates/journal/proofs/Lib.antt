@@ -1,2 +1,4 @@
 pub mod HeaderLemmas
 pub mod CutLemmas
+pub mod CodeLemmas
+pub mod ConsoleLemmas
