@@ -9,6 +9,23 @@ use std::process::Abort;
 use std::sync::ledger::{Blank, Ledger};
 use std::test::Fail;
 
+// An edit of a graph, with what it answers, or what is seen after it.
+#[derive(Clone, Copy)]
+enum Act {
+    Take(u16, u16, Took),
+    Wait(u16, u16),
+    Leave(u16),
+    Release(u16, u16, Released),
+    // A mutex goes.
+    Kill(u16),
+    // A mutex comes, with its ceiling.
+    Come(u16, u8),
+    Unchanged,
+    Changed(Change),
+    BothChanged(Change, Change),
+    Woken([u16; 3]),
+}
+
 const fn change(thread: u16, old: u8, new: u8) -> Change {
     Change {
         thread: ThreadNo(thread),
@@ -37,93 +54,131 @@ fn changed(rt: &impl Abort, bench: &Bench, wanted: &[Change]) {
     assert_eq!(rt; bench.out.as_slice(), wanted);
 }
 
-fn chain<L: Ledger>(rt: &impl Abort, alloc: Global, steps: &mut Steps<L>) -> Result<(), Fail> {
-    let mut bench = bench_of(rt, alloc, &[20, 15, 5], 2)?;
-    assert_eq!(rt; bench.take(rt, 0, 0, steps), Took::Free);
-    assert_eq!(rt; bench.take(rt, 1, 1, steps), Took::Free);
-    bench.wait(rt, 1, 0, 0, steps);
-    changed(rt, &bench, &[change(0, 20, 15)]);
-    bench.wait(rt, 2, 1, 1, steps);
-    changed(rt, &bench, &[change(0, 15, 5), change(1, 15, 5)]);
-    bench.leave(rt, 2, steps);
-    changed(rt, &bench, &[change(0, 5, 15), change(1, 5, 15)]);
-    Ok(())
+fn woken(rt: &impl Abort, bench: &Bench, wanted: &[u16; 3]) {
+    let [first, second, third] = *wanted;
+    let threads = [ThreadNo(first), ThreadNo(second), ThreadNo(third)];
+    assert_eq!(rt; bench.woken.as_slice(), threads.as_slice());
 }
 
-fn two_mutexes<L: Ledger>(
+fn perform<L: Ledger>(rt: &impl Abort, bench: &mut Bench, act: &Act, steps: &mut Steps<L>) {
+    match act {
+        Act::Take(thread, mutex, wanted) => {
+            let took = bench.take(rt, *thread, *mutex, steps);
+            assert_eq!(rt; took, *wanted);
+        }
+        Act::Wait(thread, mutex) => bench.wait(rt, *thread, *mutex, *thread as u64, steps),
+        Act::Leave(thread) => bench.leave(rt, *thread, steps),
+        Act::Release(thread, mutex, wanted) => {
+            let released = bench.release(rt, *thread, *mutex, steps);
+            assert_eq!(rt; released, *wanted);
+        }
+        Act::Kill(mutex) => bench.kill_mutex(rt, *mutex, steps),
+        Act::Come(mutex, ceiling) => bench.add_mutex(rt, *mutex, *ceiling),
+        Act::Unchanged => changed(rt, bench, &[]),
+        Act::Changed(one) => changed(rt, bench, &[*one]),
+        Act::BothChanged(one, other) => changed(rt, bench, &[*one, *other]),
+        Act::Woken(threads) => woken(rt, bench, threads),
+    }
+}
+
+fn chain() -> [Act; 8] {
+    [
+        Act::Take(0, 0, Took::Free),
+        Act::Take(1, 1, Took::Free),
+        Act::Wait(1, 0),
+        Act::Changed(change(0, 20, 15)),
+        Act::Wait(2, 1),
+        Act::BothChanged(change(0, 15, 5), change(1, 15, 5)),
+        Act::Leave(2),
+        Act::BothChanged(change(0, 5, 15), change(1, 5, 15)),
+    ]
+}
+
+fn two_mutexes() -> [Act; 7] {
+    [
+        Act::Take(0, 0, Took::Free),
+        Act::Take(0, 1, Took::Free),
+        Act::Wait(1, 0),
+        Act::Wait(2, 1),
+        Act::Changed(change(0, 10, 5)),
+        Act::Release(0, 1, Released::Passed(ThreadNo(2))),
+        Act::Changed(change(0, 5, 10)),
+    ]
+}
+
+fn deadlock() -> [Act; 12] {
+    [
+        Act::Take(0, 0, Took::Free),
+        Act::Take(1, 1, Took::Free),
+        Act::Wait(0, 1),
+        Act::Changed(change(1, 12, 10)),
+        Act::Wait(1, 0),
+        Act::Unchanged,
+        Act::Wait(2, 0),
+        Act::BothChanged(change(0, 10, 3), change(1, 10, 3)),
+        Act::Leave(2),
+        Act::BothChanged(change(0, 3, 10), change(1, 3, 10)),
+        Act::Leave(0),
+        Act::Changed(change(1, 10, 12)),
+    ]
+}
+
+fn deletion() -> [Act; 7] {
+    [
+        Act::Take(0, 0, Took::Free),
+        Act::Wait(1, 0),
+        Act::Wait(2, 0),
+        Act::Wait(3, 0),
+        Act::Kill(0),
+        Act::Woken([2, 1, 3]),
+        Act::Changed(change(0, 10, 20)),
+    ]
+}
+
+fn ceiling() -> [Act; 7] {
+    [
+        Act::Release(1, 0, Released::NotOwner(None)),
+        Act::Take(0, 0, Took::Free),
+        Act::Release(1, 0, Released::NotOwner(Some(ThreadNo(0)))),
+        Act::Kill(0),
+        Act::Come(0, 4),
+        Act::Take(0, 0, Took::Free),
+        Act::Changed(change(0, 20, 4)),
+    ]
+}
+
+fn perform_all<L: Ledger>(
     rt: &impl Abort,
     alloc: Global,
+    bases: &[u8],
+    acts: &[Act],
     steps: &mut Steps<L>,
 ) -> Result<(), Fail> {
-    let mut bench = bench_of(rt, alloc, &[20, 10, 5], 2)?;
-    assert_eq!(rt; bench.take(rt, 0, 0, steps), Took::Free);
-    assert_eq!(rt; bench.take(rt, 0, 1, steps), Took::Free);
-    bench.wait(rt, 1, 0, 0, steps);
-    bench.wait(rt, 2, 1, 1, steps);
-    assert_eq!(rt; bench.cur(rt, 0), 5);
-    assert_eq!(rt;
-        bench.release(rt, 0, 1, steps),
-        Released::Passed(ThreadNo(2))
-    );
-    changed(rt, &bench, &[change(0, 5, 10)]);
-    Ok(())
-}
-
-fn deadlock<L: Ledger>(rt: &impl Abort, alloc: Global, steps: &mut Steps<L>) -> Result<(), Fail> {
-    let mut bench = bench_of(rt, alloc, &[10, 12, 3], 2)?;
-    assert_eq!(rt; bench.take(rt, 0, 0, steps), Took::Free);
-    assert_eq!(rt; bench.take(rt, 1, 1, steps), Took::Free);
-    bench.wait(rt, 0, 1, 0, steps);
-    changed(rt, &bench, &[change(1, 12, 10)]);
-    bench.wait(rt, 1, 0, 1, steps);
-    changed(rt, &bench, &[]);
-    bench.wait(rt, 2, 0, 2, steps);
-    changed(rt, &bench, &[change(0, 10, 3), change(1, 10, 3)]);
-    bench.leave(rt, 2, steps);
-    changed(rt, &bench, &[change(0, 3, 10), change(1, 3, 10)]);
-    bench.leave(rt, 0, steps);
-    changed(rt, &bench, &[change(1, 10, 12)]);
-    assert_eq!(rt; bench.cur(rt, 0), 10);
-    Ok(())
-}
-
-fn deletion<L: Ledger>(rt: &impl Abort, alloc: Global, steps: &mut Steps<L>) -> Result<(), Fail> {
-    let mut bench = bench_of(rt, alloc, &[20, 15, 10, 15], 1)?;
-    assert_eq!(rt; bench.take(rt, 0, 0, steps), Took::Free);
-    bench.wait(rt, 1, 0, 0, steps);
-    bench.wait(rt, 2, 0, 1, steps);
-    bench.wait(rt, 3, 0, 2, steps);
-    bench.kill_mutex(rt, 0, steps);
-    let woken = [ThreadNo(2), ThreadNo(1), ThreadNo(3)];
-    assert_eq!(rt; bench.woken.as_slice(), woken.as_slice());
-    changed(rt, &bench, &[change(0, 10, 20)]);
-    Ok(())
-}
-
-fn holds_and_ceiling<L: Ledger>(
-    rt: &impl Abort,
-    alloc: Global,
-    steps: &mut Steps<L>,
-) -> Result<(), Fail> {
-    let mut bench = bench_of(rt, alloc, &[20, 20], 1)?;
-    assert_eq!(rt; bench.take(rt, 0, 0, steps), Took::Free);
-    for _ in 0..254 {
-        assert_eq!(rt; bench.take(rt, 0, 0, steps), Took::Again);
+    let mut bench = bench_of(rt, alloc, bases, 2)?;
+    for act in acts {
+        perform(rt, &mut bench, act, steps);
     }
-    assert_eq!(rt; bench.take(rt, 0, 0, steps), Took::HoldFull);
-    assert_eq!(rt;
-        bench.release(rt, 1, 0, steps),
-        Released::NotOwner(Some(ThreadNo(0)))
-    );
-    for left in (1..255u8).rev() {
-        assert_eq!(rt; bench.release(rt, 0, 0, steps), Released::Held(left));
+    Ok(())
+}
+
+// A thread takes a mutex as often as it may, and releases it as often.
+fn holds<L: Ledger>(rt: &impl Abort, alloc: Global, steps: &mut Steps<L>) -> Result<(), Fail> {
+    let mut bench = bench_of(rt, alloc, &[20], 1)?;
+    for hold in 0..256u16 {
+        let wanted = match hold {
+            0 => Took::Free,
+            255 => Took::HoldFull,
+            _ => Took::Again,
+        };
+        assert_eq!(rt; bench.take(rt, 0, 0, steps), wanted);
     }
-    assert_eq!(rt; bench.release(rt, 0, 0, steps), Released::Free);
-    assert_eq!(rt; bench.release(rt, 0, 0, steps), Released::NotOwner(None));
-    bench.kill_mutex(rt, 0, steps);
-    bench.add_mutex(rt, 0, 4);
-    assert_eq!(rt; bench.take(rt, 0, 0, steps), Took::Free);
-    changed(rt, &bench, &[change(0, 20, 4)]);
+    for left in (0..255u8).rev() {
+        let wanted = match left {
+            0 => Released::Free,
+            _ => Released::Held(left),
+        };
+        assert_eq!(rt; bench.release(rt, 0, 0, steps), wanted);
+    }
     Ok(())
 }
 
@@ -158,11 +213,12 @@ fn worked_rows<L: Ledger>(rt: &impl Abort, alloc: Global, blank: Blank) -> Resul
     requires one { L.parts ≡ 1 }
 {
     let mut steps: Steps<L> = Steps::new(blank);
-    chain(rt, alloc, &mut steps)?;
-    two_mutexes(rt, alloc, &mut steps)?;
-    deadlock(rt, alloc, &mut steps)?;
-    deletion(rt, alloc, &mut steps)?;
-    holds_and_ceiling(rt, alloc, &mut steps)?;
+    perform_all(rt, alloc, &[20, 15, 5], &chain(), &mut steps)?;
+    perform_all(rt, alloc, &[20, 10, 5], &two_mutexes(), &mut steps)?;
+    perform_all(rt, alloc, &[10, 12, 3], &deadlock(), &mut steps)?;
+    perform_all(rt, alloc, &[20, 15, 10, 15], &deletion(), &mut steps)?;
+    perform_all(rt, alloc, &[20, 20], &ceiling(), &mut steps)?;
+    holds(rt, alloc, &mut steps)?;
     ring(rt, alloc, &mut steps)
 }
 
