@@ -205,16 +205,18 @@ fn shows_event(kernel: &Kernel, place: usize, name: &[u8], flags: u32, waiters: 
     }
 }
 
-// A kernel of the board, before its first step.
-fn opened(rt: &impl Abort, alloc: Global) -> Result<Kernel, Fail> {
-    let board = parse(alloc, BOARD).ok().ok_or("board")?;
+// A kernel of the text's board, before its first step.
+fn opened(rt: &impl Abort, alloc: Global, text: &[u8]) -> Result<Kernel, Fail> {
+    let board = parse(alloc, text).ok().ok_or("board")?;
     assert!(rt; is_built(&board));
-    let kernel = Kernel::open(alloc, board)?;
+    Ok(Kernel::open(alloc, board)?)
+}
+
+fn look_at_opening(rt: &impl Abort, kernel: &Kernel) {
     assert!(rt; kernel.is_quiet() && !kernel.all_idle());
     assert!(rt; kernel.run_mode() == RunMode::Normal && kernel.mode() == Sleep::Light);
     assert_eq!(rt; kernel.votes(Sleep::Deep), 0);
     assert_eq!(rt; kernel.board().threads.len(), 3);
-    Ok(kernel)
 }
 
 fn perform_all<L: Ledger>(
@@ -229,50 +231,72 @@ fn perform_all<L: Ledger>(
     }
 }
 
-fn whole_run<L: Ledger>(rt: &impl Abort, alloc: Global, blank: Blank) -> Result<(), Fail>
+fn run_threads<L: Ledger>(
+    rt: &impl Abort,
+    kernel: &mut Kernel,
+    out: &mut Lines,
+    steps: &mut Steps<L>,
+) {
+    look_at_opening(rt, kernel);
+    perform_all(rt, kernel, &begin_stages(), out, steps);
+    assert!(rt; shows(kernel, 0, b"c", ThreadState::Running, 1));
+    assert!(rt; shows(kernel, 1, b"b", ThreadState::Initial, 1));
+    assert!(rt; shows(kernel, 2, b"a", ThreadState::Ready, 3));
+    perform_all(rt, kernel, &end_stages(), out, steps);
+    assert_eq!(rt; kernel.count(Class::Thread), 2);
+    end_running(rt, kernel, out, steps);
+    assert_eq!(rt; kernel.count(Class::Thread), 1);
+}
+
+fn use_objects<L: Ledger>(
+    rt: &impl Abort,
+    kernel: &mut Kernel,
+    out: &mut Lines,
+    steps: &mut Steps<L>,
+) {
+    assert!(rt; step(rt, kernel, out, steps).is_none());
+    assert!(rt; step(rt, kernel, out, steps) == Some(Answer::Code(Code::Ok)));
+    assert!(rt; step(rt, kernel, out, steps) == Some(Answer::Waits));
+    assert!(rt; shows_sem(kernel, 0, b"t", 0, 1));
+    assert!(rt; shows_sem(kernel, 1, b"s", 3, 0));
+    assert!(rt; shows_event(kernel, 0, b"e", 6, 0));
+}
+
+// What is done with a kernel.
+#[derive(Clone, Copy)]
+enum Use {
+    Threads,
+    Objects,
+}
+
+// Opens a kernel and uses it. It is the one function that lets a kernel go, since that is long to prove.
+fn use_kernel<L: Ledger>(
+    rt: &impl Abort,
+    alloc: Global,
+    text: &[u8],
+    kind: Use,
+    blank: Blank,
+) -> Result<(), Fail>
     requires name { blank.name ≡ L.name }
     requires parts { blank.parts ≡ L.parts }
     requires one { L.parts ≡ 1 }
 {
     let mut steps: Steps<L> = Steps::new(blank);
     let mut out = Lines::new(alloc, 8)?;
-    let mut kernel = opened(rt, alloc)?;
-    perform_all(rt, &mut kernel, &begin_stages(), &mut out, &mut steps);
-    assert!(rt; shows(&kernel, 0, b"c", ThreadState::Running, 1));
-    assert!(rt; shows(&kernel, 1, b"b", ThreadState::Initial, 1));
-    assert!(rt; shows(&kernel, 2, b"a", ThreadState::Ready, 3));
-    perform_all(rt, &mut kernel, &end_stages(), &mut out, &mut steps);
-    assert_eq!(rt; kernel.count(Class::Thread), 2);
-    end_running(rt, &mut kernel, &mut out, &mut steps);
-    assert_eq!(rt; kernel.count(Class::Thread), 1);
+    let mut kernel = opened(rt, alloc, text)?;
+    match kind {
+        Use::Threads => run_threads(rt, &mut kernel, &mut out, &mut steps),
+        Use::Objects => use_objects(rt, &mut kernel, &mut out, &mut steps),
+    }
     Ok(())
 }
 
 #[test]
 fn a_kernel_runs_its_threads(rt: HostRuntime) -> Result<(), Fail> {
-    whole_run::<Brand>(&rt, rt.alloc(), Blank::new(1))
-}
-
-fn waiting_run<L: Ledger>(rt: &impl Abort, alloc: Global, blank: Blank) -> Result<(), Fail>
-    requires name { blank.name ≡ L.name }
-    requires parts { blank.parts ≡ L.parts }
-    requires one { L.parts ≡ 1 }
-{
-    let mut steps: Steps<L> = Steps::new(blank);
-    let mut out = Lines::new(alloc, 8)?;
-    let board = parse(alloc, OBJECTS).ok().ok_or("board")?;
-    assert!(rt; is_built(&board));
-    let mut kernel = Kernel::open(alloc, board)?;
-    assert!(rt; step(rt, &mut kernel, &mut out, &mut steps).is_none());
-    assert!(rt; step(rt, &mut kernel, &mut out, &mut steps) == Some(Answer::Code(Code::Ok)));
-    assert!(rt; step(rt, &mut kernel, &mut out, &mut steps) == Some(Answer::Waits));
-    assert!(rt; shows_sem(&kernel, 0, b"t", 0, 1));
-    assert!(rt; shows_sem(&kernel, 1, b"s", 3, 0));
-    assert!(rt; shows_event(&kernel, 0, b"e", 6, 0));
-    Ok(())
+    use_kernel::<Brand>(&rt, rt.alloc(), BOARD, Use::Threads, Blank::new(1))
 }
 
 #[test]
 fn a_kernel_shows_its_objects(rt: HostRuntime) -> Result<(), Fail> {
-    waiting_run::<Brand>(&rt, rt.alloc(), Blank::new(1))
+    use_kernel::<Brand>(&rt, rt.alloc(), OBJECTS, Use::Objects, Blank::new(1))
 }
