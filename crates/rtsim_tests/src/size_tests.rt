@@ -1,5 +1,6 @@
 use crate::outside::{GOOD, Outside, Told, perform};
 use std::alloc::{AllocError, Global};
+use std::process::Abort;
 use std::test::Fail;
 
 // A statement of 62 bytes.
@@ -54,17 +55,13 @@ fn talkative(alloc: Global, settings: &[u8], last: &[u8]) -> Result<Vec<u8>, All
 }
 
 // The status of `show` of what `show` writes of a board with this last line, where that has so many bytes.
-fn status_of_shown(rt: &HostRuntime, last: &[u8], bytes: usize) -> Result<u8, Fail> {
-    let shown = talkative(rt.alloc(), SETTINGS, last)?;
+fn status_of_shown(rt: &impl Abort, alloc: Global, last: &[u8], bytes: usize) -> Result<u8, Fail> {
+    let shown = talkative(alloc, SETTINGS, last)?;
     assert_eq!(rt; shown.len(), bytes);
-    let first = told(
-        rt.alloc(),
-        "show",
-        &talkative(rt.alloc(), b"board 1\n", last)?,
-    )?;
+    let first = told(alloc, "show", &talkative(alloc, b"board 1\n", last)?)?;
     assert_eq!(rt; first.status, 0);
     assert!(rt; first.out.bytes() == shown.as_slice());
-    let again = told(rt.alloc(), "show", &shown)?;
+    let again = told(alloc, "show", &shown)?;
     assert!(rt; again.status == 6 || again.out.bytes() == shown.as_slice());
     Ok(again.status)
 }
@@ -73,8 +70,8 @@ fn status_of_shown(rt: &HostRuntime, last: &[u8], bytes: usize) -> Result<u8, Fa
 #[test]
 fn the_longest_shown_board_is_read_again(rt: HostRuntime) -> Result<(), Fail> {
     let last = b"arrive 1 console \"0123456789\"\n";
-    assert_eq!(rt; status_of_shown(&rt, last, 1_048_576)?, 0);
+    assert_eq!(rt; status_of_shown(&rt, rt.alloc(), last, 1_048_576)?, 0);
     let longer = b"arrive 1 console \"0123456789a\"\n";
-    assert_eq!(rt; status_of_shown(&rt, longer, 1_048_577)?, 6);
+    assert_eq!(rt; status_of_shown(&rt, rt.alloc(), longer, 1_048_577)?, 6);
     Ok(())
 }
