@@ -17,3 +17,9 @@ pub mod Laws
 pub mod Replayed
 pub mod Scenarios
 pub mod Families
+pub mod LowPower
+pub mod Pools
+pub mod SoftTimers
+pub mod Used
+pub mod Waking
+pub mod Wrapping
