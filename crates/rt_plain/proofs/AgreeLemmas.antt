@@ -18,6 +18,7 @@ use Rattle.rt_plain.specs.State.{State}
 use Rattle.rt_plain.specs.Sleeps.{Did, Made, Same, Halted}
 use Rattle.rt_plain.specs.Steps.{happens}
 use Rattle.rt_plain.specs.Opening.{open_state}
+use Rattle.rt_plain.specs.Shown.{shown}
 use Rattle.rt_plain.specs.Runs.{IsMade, IsRunIn, IsRunWithin, entry_tick, is_event_of, is_over, halt_of, events_of}
 use Rattle.rt_plain.specs.Live.{owner_counts}
 use Rattle.rt_plain.specs.Words.{words, halt_text}
@@ -315,7 +316,7 @@ rest-entry b done e es (Some at) end = refl
 -- the end of a run that stands at this state
 abbrev EndsAt : PlainBoard → State → Option End → Type 0
 EndsAt b s None = Unit {0}
-EndsAt b s (Some e) = (halt_of b s ≡ Some e.halt) × (s.tick ≡ e.tick)
+EndsAt b s (Some e) = (halt_of b s ≡ Some e.halt) × (shown b s.moment ≡ e.tick)
 
 -- the cut stands among further entries, where none stood before
 abbrev CutsAt : Bool → List Entry → Option ℕ → Type 0
@@ -381,13 +382,13 @@ most-end b r l ls k e rest le u ends is =
     let same = line-same l row (all_lines (take k ls) ++ rest) [] u (end-unbroken e.halt e.tick) is in
     let none : k ≡ 0 = no_lines k ls rest le same.1 in
     let no_cut : bytes_eq l (cut_now b r.done) ≡ false = ap (λ (x : List ℕ). bytes_eq x (cut_now b r.done)) same.0 ∙ end-no_cut e.halt e.tick (owner_counts b.cores (events_of r.done)) in
-    let here : is_end_of l r.state.tick (halt_of b r.state) ≡ true =
-    ap (is_end_of l r.state.tick) ends.0 ∙ ap (λ (t : ℕ). bytes_eq l (row_text (Ended e.halt t))) ends.1 ∙ (bytes_eq-Decides l row).1 same.0 in
-    let read : read_outer b r l ≡ Ends = unless (bytes_eq l (cut_now b r.done)) (read_cut r) _ no_cut ∙ when (is_end_of l r.state.tick (halt_of b r.state)) Ends _ here in
+    let here : is_end_of l (shown b r.state.moment) (halt_of b r.state) ≡ true =
+    ap (is_end_of l (shown b r.state.moment)) ends.0 ∙ ap (λ (t : ℕ). bytes_eq l (row_text (Ended e.halt t))) ends.1 ∙ (bytes_eq-Decides l row).1 same.0 in
+    let read : read_outer b r l ≡ Ends = unless (bytes_eq l (cut_now b r.done)) (read_cut r) _ no_cut ∙ when (is_end_of l (shown b r.state.moment) (halt_of b r.state)) Ends _ here in
     subst (λ (x : Read). suc k ≤ counted_on x (λ n. pass b n ls)) (sym read) (omega arith)
 
 -- the entry is what its event made
-made-entry : (b : PlainBoard) (s new : State) (e : Entry) → IsMade b s e new → record { event = e.event; tick = entry_tick e.event s new; lines = e.lines } ≡ e
+made-entry : (b : PlainBoard) (s new : State) (e : Entry) → IsMade b s e new → record { event = e.event; tick = entry_tick b e.event s new; lines = e.lines } ≡ e
 made-entry b s new e made = ap (λ (t : ℕ). record { event = e.event; tick = t; lines = e.lines }) (sym made.2)
 
 -- what goes on wasn't over
@@ -431,13 +432,13 @@ most-entry b r l ls k e es state cut end rest few le u ih run time cuts ends is 
     let same = line-same l top (all_lines (take k ls) ++ rest) (lines_text e.lines ++ tail) u (header-unbroken n e.event e.tick) (is ∙ entry-split n e tail) in
     let next : Reader = record { state = mid; done = r.done ++ e ∷ []; counted = r.counted; due = lines_text e.lines } in
     let no_cut : bytes_eq l (cut_now b r.done) ≡ false = ap (λ (x : List ℕ). bytes_eq x (cut_now b r.done)) same.0 ∙ header-no_cut n e.event e.tick (owner_counts b.cores (events_of r.done)) in
-    let no_end : is_end_of l r.state.tick (halt_of b r.state) ≡ false = ap (λ (x : List ℕ). is_end_of x r.state.tick (halt_of b r.state)) same.0 ∙ header-no_end n e.event e.tick r.state.tick (halt_of b r.state) in
+    let no_end : is_end_of l (shown b r.state.moment) (halt_of b r.state) ≡ false = ap (λ (x : List ℕ). is_end_of x (shown b r.state.moment) (halt_of b r.state)) same.0 ∙ header-no_end n e.event e.tick (shown b r.state.moment) (halt_of b r.state) in
     let event : event_named (word_at (words_of l) 1) ≡ Some e.event = ap (λ (x : List ℕ). event_named (word_at (words_of x) 1)) same.0 ∙ header-event n e.event e.tick (happens-core b e.event few made.0) in
     let follows : may_follow b r e mid ≡ true = and_from _ _ (and_from _ _ made.0 (not_from_false _ run.1)) (not_from_false _ (not_late b (r.done ++ e ∷ []) mid (in-time-first b (r.done ++ e ∷ []) mid state es run.3 time))) in
     let front : behind_front (with_newline l) (entry_text n e) ≡ Some (lines_text e.lines) = ap (λ (x : List ℕ). behind_front (with_newline x) (entry_text n e)) same.0 ∙ own-front (with_newline top) (lines_text e.lines) in
     let read : read_outer b r l ≡ On next =
     unless (bytes_eq l (cut_now b r.done)) (read_cut r) _ no_cut
-    ∙ unless (is_end_of l r.state.tick (halt_of b r.state)) Ends _ no_end
+    ∙ unless (is_end_of l (shown b r.state.moment) (halt_of b r.state)) Ends _ no_end
     ∙ ap (read_event b r l) event
     ∙ ap (read_made b r l e.event) made.1
     ∙ ap (λ (x : Entry). read_entry b r l x mid) (made-entry b r.state mid e made)
@@ -499,7 +500,7 @@ none-more b r ls fine = record {
 -- what a line that was read leaves
 abbrev Leaves : PlainBoard → Reader → List ℕ → Read → Type 0
 Leaves b r l Stop = Unit {0}
-Leaves b r l Ends = (h : Halt) × (r.due ≡ []) × (halt_of b r.state ≡ Some h) × (l ≡ row_text (Ended h r.state.tick))
+Leaves b r l Ends = (h : Halt) × (r.due ≡ []) × (halt_of b r.state ≡ Some h) × (l ≡ row_text (Ended h (shown b r.state.moment)))
 Leaves b r l (On next) = IsFine b next × ((k : ℕ) (ls : List (List ℕ)) → GoesOn b next k ls → GoesOn b r (suc k) (l ∷ ls))
 
 leaves-due : (b : PlainBoard) (r : Reader) (l : List ℕ) (o : Option (List ℕ)) → IsFine b r → behind_front (with_newline l) r.due ≡ o → Leaves b r l (read_due r o)
@@ -598,7 +599,7 @@ leaves-entry b r l e s (Some due) fine none made going late is = (
   },
 )
 
-leaves-follow : (b : PlainBoard) (r : Reader) (l : List ℕ) (e : Entry) (s : State) (t : Bool) → IsFine b r → r.due ≡ [] → happens b r.state e.event ≡ Made s e.lines → e.tick ≡ entry_tick e.event r.state s → may_follow b r e s ≡ t → Leaves b r l (cond t (on_entry r e s (behind_front (with_newline l) (entry_text (length r.done + 1) e))) Stop)
+leaves-follow : (b : PlainBoard) (r : Reader) (l : List ℕ) (e : Entry) (s : State) (t : Bool) → IsFine b r → r.due ≡ [] → happens b r.state e.event ≡ Made s e.lines → e.tick ≡ entry_tick b e.event r.state s → may_follow b r e s ≡ t → Leaves b r l (cond t (on_entry r e s (behind_front (with_newline l) (entry_text (length r.done + 1) e))) Stop)
 leaves-follow b r l e s false fine none did at is = tt
 leaves-follow b r l e s true fine none did at is =
     let p = and_parts (is_event_of b e.event && not (is_over b r.done)) (not (is_late b (r.done ++ e ∷ []) s)) is in
@@ -607,7 +608,7 @@ leaves-follow b r l e s true fine none did at is =
 
 leaves-made : (b : PlainBoard) (r : Reader) (l : List ℕ) (event : Event) (did : Did) → IsFine b r → r.due ≡ [] → happens b r.state event ≡ did → Leaves b r l (read_made b r l event did)
 leaves-made b r l event (Made s lines) fine none is =
-    let e : Entry = record { event = event; tick = entry_tick event r.state s; lines = lines } in
+    let e : Entry = record { event = event; tick = entry_tick b event r.state s; lines = lines } in
     leaves-follow b r l e s (may_follow b r e s) fine none is refl refl
 leaves-made b r l event Same fine none is = tt
 leaves-made b r l event (Halted halt) fine none is = tt
@@ -620,13 +621,13 @@ end-same : (l : List ℕ) (tick : ℕ) (o : Option Halt) → is_end_of l tick o 
 end-same l tick None e = absurd cc
 end-same l tick (Some h) e = (h, refl, is_word l (row_text (Ended h tick)) e)
 
-leaves-end : (b : PlainBoard) (r : Reader) (l : List ℕ) (t : Bool) → IsFine b r → r.due ≡ [] → is_end_of l r.state.tick (halt_of b r.state) ≡ t → Leaves b r l (cond t Ends (read_event b r l (event_named (word_at (words_of l) 1))))
-leaves-end b r l true fine none is = let e = end-same l r.state.tick (halt_of b r.state) is in (e.0, none, e.1, e.2)
+leaves-end : (b : PlainBoard) (r : Reader) (l : List ℕ) (t : Bool) → IsFine b r → r.due ≡ [] → is_end_of l (shown b r.state.moment) (halt_of b r.state) ≡ t → Leaves b r l (cond t Ends (read_event b r l (event_named (word_at (words_of l) 1))))
+leaves-end b r l true fine none is = let e = end-same l (shown b r.state.moment) (halt_of b r.state) is in (e.0, none, e.1, e.2)
 leaves-end b r l false fine none is = leaves-event b r l (event_named (word_at (words_of l) 1)) fine none
 
-leaves-outer : (b : PlainBoard) (r : Reader) (l : List ℕ) (t : Bool) → IsFine b r → r.due ≡ [] → bytes_eq l (cut_now b r.done) ≡ t → Leaves b r l (cond t (read_cut r) (cond (is_end_of l r.state.tick (halt_of b r.state)) Ends (read_event b r l (event_named (word_at (words_of l) 1)))))
+leaves-outer : (b : PlainBoard) (r : Reader) (l : List ℕ) (t : Bool) → IsFine b r → r.due ≡ [] → bytes_eq l (cut_now b r.done) ≡ t → Leaves b r l (cond t (read_cut r) (cond (is_end_of l (shown b r.state.moment) (halt_of b r.state)) Ends (read_event b r l (event_named (word_at (words_of l) 1)))))
 leaves-outer b r l true fine none is = leaves-cut b r l r.counted fine none refl (is_word l (cut_now b r.done) is)
-leaves-outer b r l false fine none is = leaves-end b r l (is_end_of l r.state.tick (halt_of b r.state)) fine none refl
+leaves-outer b r l false fine none is = leaves-end b r l (is_end_of l (shown b r.state.moment) (halt_of b r.state)) fine none refl
 
 leaves-line : (b : PlainBoard) (r : Reader) (l due : List ℕ) → IsFine b r → r.due ≡ due → Leaves b r l (read_line b r l due)
 leaves-line b r l [] fine is = leaves-outer b r l (bytes_eq l (cut_now b r.done)) fine is refl
@@ -641,10 +642,10 @@ holds-read b r l ls Ends fine left ih = record {
   in_time = λ halt live halts. subst (λ (j : List Entry). is_over b j ≡ false) (sym (append-nil r.done)) (fine.in_time halt live halts);
   cut = None;
   cuts = tt;
-  end = Some (record { halt = left.0; tick = r.state.tick });
+  end = Some (record { halt = left.0; tick = shown b r.state.moment });
   ends = (left.2, refl);
   rest = [];
-  begins = append-nil (l ++ 10 ∷ []) ∙ ap with_newline left.3 ∙ ap (λ (x : List ℕ). x ++ end_text (Some (record { halt = left.0; tick = r.state.tick }))) (sym left.1);
+  begins = append-nil (l ++ 10 ∷ []) ∙ ap with_newline left.3 ∙ ap (λ (x : List ℕ). x ++ end_text (Some (record { halt = left.0; tick = shown b r.state.moment }))) (sym left.1);
 }
 holds-read b r l ls (On next) fine left ih =
     let sum : suc (pass b next ls) ≡ 1 + pass b next ls = omega arith in
@@ -728,7 +729,7 @@ ends-of : (b : PlainBoard) (journal : List Entry) (state : State) (end : Option 
 ends-of b journal state None run h = tt
 ends-of b journal state (Some e) run h =
     let same : h.state ≡ state = run-state (is_over b) b [] (open_state b) journal h.state state h.within.is_run run in
-    (ap (halt_of b) (sym same) ∙ h.halted, ap (λ (s : State). s.tick) (sym same) ∙ h.at)
+    (ap (halt_of b) (sym same) ∙ h.halted, ap (λ (s : State). shown b s.moment) (sym same) ∙ h.at)
 
 end-is : (b : PlainBoard) (journal : List Entry) (state : State) (end : Option End) → IsRunWithin b journal state → EndsAt b state end → IsEndOf b journal end
 end-is b journal state None within h = tt

@@ -13,6 +13,7 @@ use Rattle.rt_plain.specs.State.{State, Nest}
 use Rattle.rt_plain.specs.Sleeps.{Did, Made, Same, Halted}
 use Rattle.rt_plain.specs.Steps.{happens}
 use Rattle.rt_plain.specs.Opening.{open_state, unstarted_state, with_auto_timer}
+use Rattle.rt_plain.specs.Shown.{shown}
 use Rattle.rt_plain.specs.Runs.{IsRunIn, IsCompleteIn, Course, opened, course_after, is_event_of, halt_of}
 use Rattle.rt_plain.specs.Schedules.{Place, Driven, IsDriveable, round_count, rounds, period_place, listed_place, closing_event, turn_event, period_event, next_event, is_sleep_of, state_after, place_after_closing, place_after_turn, place_in_period, place_unless_slept, place_after, event_of, moved, is_stopped, turns, most_turns, driven, words_of, listed_of, begun, scheduled_course, IsScheduled, rounds_begun}
 use Rattle.rand_pcg.specs.Lcg.{Lcg}
@@ -29,7 +30,7 @@ pub record IsGoing (over : List Entry → Bool) (b : PlainBoard) (c : Course) : 
   pub last : (halt : Halt) → c.halt ≡ Some halt → c.state.halt ≡ None → over c.journal ≡ false
 
 -- one event of a machine that goes on
-pub course-going : (over : List Entry → Bool) (b : PlainBoard) (c : Course) (e : Event) (d : Did) → IsTrue (is_event_of b e) → over c.journal ≡ false → IsGoing over b c → happens b c.state e ≡ d → IsGoing over b (course_after c e d)
+pub course-going : (over : List Entry → Bool) (b : PlainBoard) (c : Course) (e : Event) (d : Did) → IsTrue (is_event_of b e) → over c.journal ≡ false → IsGoing over b c → happens b c.state e ≡ d → IsGoing over b (course_after b c e d)
 course-going over b c e (Made s lines) core free going is = record {
   run = course-within over b c e (Made s lines) core free going.run is;
   halted = λ h ends. halted-state b s h ends;
@@ -161,7 +162,7 @@ begun-driven over b driveable = record {
 }
 
 -- a machine on its way that has halted is a complete run
-going-complete : (over : List Entry → Bool) (b : PlainBoard) (c : Course) (halt : Halt) → IsGoing over b c → c.halt ≡ Some halt → IsCompleteIn over b c.journal halt c.state.tick
+going-complete : (over : List Entry → Bool) (b : PlainBoard) (c : Course) (halt : Halt) → IsGoing over b c → c.halt ≡ Some halt → IsCompleteIn over b c.journal halt (shown b c.state.moment)
 going-complete over b c halt going ends = record {
   state = c.state;
   within = record { is_run = going.run; last = λ h on is. going.last halt ends on };
@@ -173,7 +174,7 @@ going-complete over b c halt going ends = record {
 pub scheduled-complete : (over : List Entry → Bool) (b : PlainBoard) (journal : List Entry) (halt : Halt) (tick : ℕ) → IsDriveable b → IsScheduled over b journal halt tick → IsCompleteIn over b journal halt tick
 scheduled-complete over b journal halt tick driveable is =
     let c : Course = scheduled_course over b in
-    let complete : IsCompleteIn over b c.journal halt c.state.tick = going-complete over b c halt (driven-driven over b b.schedule (begun b) driveable.some_core (begun-driven over b driveable)).going is.halted in
+    let complete : IsCompleteIn over b c.journal halt (shown b c.state.moment) = going-complete over b c halt (driven-driven over b b.schedule (begun b) driveable.some_core (begun-driven over b driveable)).going is.halted in
     subst (λ (j : List Entry). IsCompleteIn over b j halt tick) is.made (subst (λ (t : ℕ). IsCompleteIn over b c.journal halt t) is.at complete)
 
 -- the run that goes on by rounds from where a journal led
@@ -189,6 +190,6 @@ rounds-driven over b journal s run = record {
 }
 
 pub rounds-complete : (over : List Entry → Bool) (b : PlainBoard) (journal : List Entry) (s : State) (halt : Halt) → 1 ≤ b.cores → IsRunIn over b [] (open_state b) journal s → (driven over b Schedule.Round (rounds_begun b s journal)).course.halt ≡ Some halt
-    → IsCompleteIn over b (driven over b Schedule.Round (rounds_begun b s journal)).course.journal halt (driven over b Schedule.Round (rounds_begun b s journal)).course.state.tick
+    → IsCompleteIn over b (driven over b Schedule.Round (rounds_begun b s journal)).course.journal halt (shown b (driven over b Schedule.Round (rounds_begun b s journal)).course.state.moment)
 rounds-complete over b journal s halt some run ends =
     going-complete over b (driven over b Schedule.Round (rounds_begun b s journal)).course halt (driven-driven over b Schedule.Round (rounds_begun b s journal) some (rounds-driven over b journal s run)).going ends

@@ -182,7 +182,7 @@ module _ (over : List Entry → Bool) (b : PlainBoard) (schedule : Schedule) (li
     same = moved-is b schedule d (Made s lines) is
 
     more : length (moved_by b schedule d (event_of b d) (Made s lines)).course.journal + e ≡ b.entries
-    more = omega (arith, count, length-append d.course.journal (record { event = event_of b d; tick = entry_tick (event_of b d) d.course.state s; lines = lines } ∷ []))
+    more = omega (arith, count, length-append d.course.journal (record { event = event_of b d; tick = entry_tick b (event_of b d) d.course.state s; lines = lines } ∷ []))
 
   -- a turn that finds the machine halted
   halted-stops : (n : ℕ) (d : Driven) (h : Halt) → happens b d.course.state (event_of b d) ≡ Halted h → Stops over b schedule n (moved b schedule d)

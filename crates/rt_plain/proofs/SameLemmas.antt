@@ -9,6 +9,7 @@ use Rattle.rt_plain.specs.State.{State}
 use Rattle.rt_plain.specs.Sleeps.{Made}
 use Rattle.rt_plain.specs.Steps.{happens}
 use Rattle.rt_plain.specs.Opening.{open_state}
+use Rattle.rt_plain.specs.Shown.{shown}
 use Rattle.rt_plain.specs.Runs.{IsMade, IsRun, IsRunIn, IsCompleteIn, entry_tick, events_of, halt_of}
 use Rattle.rt_plain.specs.Schedules.{IsScheduled}
 
@@ -32,7 +33,7 @@ entry-same b old s u e f event made other =
     let both : Made s e.lines ≡ Made u f.lines = same-made b old s u e f event made other in
     let state : s ≡ u = made-state s u e.lines f.lines both in
     let lines : e.lines ≡ f.lines = made-lines s u e.lines f.lines both in
-    let ticks : entry_tick e.event old s ≡ entry_tick f.event old u = subst (λ (x : Event). entry_tick e.event old s ≡ entry_tick x old u) event (ap (entry_tick e.event old) state) in
+    let ticks : entry_tick b e.event old s ≡ entry_tick b f.event old u = subst (λ (x : Event). entry_tick b e.event old s ≡ entry_tick b x old u) event (ap (entry_tick b e.event old) state) in
     let tick : e.tick ≡ f.tick = made.2 ∙ ticks ∙ sym other.2 in
     (λ i. record { event = event i; tick = tick i; lines = lines i }, state)
 
@@ -61,7 +62,7 @@ pub complete-same : (over within : List Entry → Bool) (b : PlainBoard) (journa
 complete-same over within b journal entries h k t u same one other =
     let runs : (journal ≡ entries) × (one.state ≡ other.state) = run-same b (open_state b) one.state other.state journal entries same
     (IsRunIn-run over b [] (open_state b) one.state journal one.within.is_run) (IsRunIn-run within b [] (open_state b) other.state entries other.within.is_run) in
-    (runs.0, some-same h k (sym one.halted ∙ ap (halt_of b) runs.1 ∙ other.halted), sym one.at ∙ ap (λ (s : State). s.tick) runs.1 ∙ other.at)
+    (runs.0, some-same h k (sym one.halted ∙ ap (halt_of b) runs.1 ∙ other.halted), sym one.at ∙ ap (λ (s : State). shown b s.moment) runs.1 ∙ other.at)
 
 -- a board has one run by its schedule
 pub scheduled-same : (over : List Entry → Bool) (b : PlainBoard) (journal entries : List Entry) (h k : Halt) (t u : ℕ) → IsScheduled over b journal h t → IsScheduled over b entries k u → (journal ≡ entries) × (h ≡ k) × (t ≡ u)

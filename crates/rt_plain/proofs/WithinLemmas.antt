@@ -16,7 +16,7 @@ IsRunIn-snoc over b done old mid new (f ∷ journal) e run going made =
     (run.0, run.1, run.2, IsRunIn-snoc over b (done ++ f ∷ []) run.0 mid new journal e run.3 (subst (λ (j : List Entry). over j ≡ false) (sym (append_assoc done (f ∷ []) journal)) going) made)
 
 -- one event of a run that goes on
-pub course-within : (over : List Entry → Bool) (b : PlainBoard) (c : Course) (e : Event) (d : Did) → IsTrue (is_event_of b e) → over c.journal ≡ false → IsRunIn over b [] (open_state b) c.journal c.state → happens b c.state e ≡ d → IsRunIn over b [] (open_state b) (course_after c e d).journal (course_after c e d).state
+pub course-within : (over : List Entry → Bool) (b : PlainBoard) (c : Course) (e : Event) (d : Did) → IsTrue (is_event_of b e) → over c.journal ≡ false → IsRunIn over b [] (open_state b) c.journal c.state → happens b c.state e ≡ d → IsRunIn over b [] (open_state b) (course_after b c e d).journal (course_after b c e d).state
 course-within over b c e (Made s lines) core going run is = IsRunIn-snoc over b [] (open_state b) c.state s c.journal _ run going (core, is, refl)
 course-within over b c e Same core going run is = run
 course-within over b c e (Halted h) core going run is = run
