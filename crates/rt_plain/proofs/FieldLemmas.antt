@@ -24,7 +24,7 @@ use Rattle.rt_plain.specs.declared.quote.Quoting.TheVariants.{Plain}
 use Rattle.rt_plain.specs.Words.{code_text, sleep_text, run_mode_text, order_text, class_text}
 use Rattle.rt_plain.specs.Texts.{quoted_text, code_or_wait, woke_text, fired_text}
 use Rattle.rt_plain.specs.Splits.{is_printable}
-use Rattle.rt_plain.specs.Fields.{Field, Number, Levels, Core, Wait, Named, Indicated, Quoted, Coded, Ordered, Said, Classed, Moded, Ran, Repeated, Started, Armed, How, Keep, OnOff, Powered, Placed, Answered, Woken, Acted, Changed, Received, all_answers, answer_in, all_wakes, woke_in, all_acts, fired_in, split_more, split_last, paired, change_parts, change_in, received_parts, received_in, Value, Fits, spelled, value_in, listed_in, all_codes, all_orders, all_whats, deletable_classes, all_modes, all_run_modes, all_timer_kinds, code_in, order_in, what_in, what_text, class_in, is_deletable, mode_in, run_in, timer_kind_in, timer_kind_text, indicated_in, name_or_dash, number_in, is_within, levels_in, core_in, wait_in, name_in, choice_in, text_in, text_or, unquoted, result_map, read_on, is_number, either, is_digit}
+use Rattle.rt_plain.specs.Fields.{Field, Number, Moment, Levels, Core, Wait, Named, Indicated, Quoted, Coded, Ordered, Said, Classed, Moded, Ran, Repeated, Started, Armed, How, Keep, OnOff, Powered, Placed, Answered, Woken, Acted, Changed, Received, all_answers, answer_in, all_wakes, woke_in, all_acts, fired_in, split_more, split_last, paired, change_parts, change_in, received_parts, received_in, Value, Fits, spelled, value_in, listed_in, all_codes, all_orders, all_whats, deletable_classes, all_modes, all_run_modes, all_timer_kinds, code_in, order_in, what_in, what_text, class_in, is_deletable, mode_in, run_in, timer_kind_in, timer_kind_text, indicated_in, name_or_dash, number_in, is_within, moment_in, levels_in, core_in, wait_in, name_in, choice_in, text_in, text_or, unquoted, result_map, read_on, is_number, either, is_digit}
 use Rattle.rt_plain.proofs.NumberLemmas.{own, number_takes, number_again}
 use Rattle.rt_plain.proofs.QuoteLemmas.{text-again, text_takes}
 
@@ -79,6 +79,19 @@ number-again low high n a b c =
     let within : is_within low high n ≡ true = and_from _ _ (and_from _ _ (le-leb low n a) (le-leb n high b)) (lt-ltb n (2 ^ 32) c) in
     rw (t.0, t.1, within) refl
 
+moment-takes : (w : List ℕ) (n : ℕ) → moment_in w ≡ Ok n → (w ≡ decimal n) × Fits Moment n
+moment-takes w n e =
+    let a = kept_in (is_number w) Why.Number _ n e in
+    let b = kept (leb 1 (read_on 0 w) && leb (read_on 0 w) 1099511627775) Why.Range (read_on 0 w) n a.1 in
+    let c = and_parts (leb 1 (read_on 0 w)) (leb (read_on 0 w) 1099511627775) b.0 in
+    let high : read_on 0 w ≤ 1099511627775 = leb-true _ _ c.1 in
+    subst (λ (m : ℕ). (w ≡ decimal m) × Fits Moment m) b.1 (sym (number_takes w a.0 (omega arith)), (leb-true _ _ c.0, high))
+
+moment-again : (n : ℕ) → Fits Moment n → moment_in (decimal n) ≡ Ok n
+moment-again n h =
+    let t = number_again n (omega (arith, h.1)) in
+    rw (t.0, t.1, le-leb 1 n h.0, le-leb n 1099511627775 h.1) refl
+
 -- ---- choices
 
 pub choice-takes : (first second w : List ℕ) (b : Bool) → choice_in first second w ≡ Ok b → w ≡ either first second b
@@ -98,6 +111,7 @@ choice-again first second false ne = rw (ne, is_same second) refl
 abbrev pub IsTold : (f : Field) → Value f → Type 0
 IsTold Core v = Fits Core v
 IsTold (Number low high) v = Unit {0}
+IsTold Moment v = Unit {0}
 IsTold Levels v = Unit {0}
 IsTold Wait v = Unit {0}
 IsTold Named v = Unit {0}
@@ -262,7 +276,7 @@ run-again RunMode.High = refl
 run-again _ = refl
 
 timer_kind-takes : (w : List ℕ) (v : TimerKind) → timer_kind_in w ≡ Ok v → w ≡ timer_kind_text v
-timer_kind-takes w v e = listed-takes Why.Choice timer_kind_text all_timer_kinds w v (refl, (refl, tt)) e
+timer_kind-takes w v e = listed-takes Why.Choice timer_kind_text all_timer_kinds w v (refl, (refl, (refl, (refl, tt)))) e
 
 timer_kind-again : (v : TimerKind) → timer_kind_in (timer_kind_text v) ≡ Ok v
 timer_kind-again TimerKind.OneShot = refl
@@ -311,11 +325,12 @@ woke-again (Woke.Code _) = refl
 
 fired-takes : (w : List ℕ) (v : Fired) → fired_in w ≡ Ok v → w ≡ fired_text v
 unfolding digits
-fired-takes w v e = listed-takes Why.Number fired_text all_acts w v (refl, (refl, (refl, (refl, (refl, (refl, (refl, (refl, (refl, (refl, (refl, (refl, tt)))))))))))) e
+fired-takes w v e = listed-takes Why.Number fired_text all_acts w v (refl, (refl, (refl, (refl, (refl, (refl, (refl, (refl, (refl, (refl, (refl, (refl, (refl, tt))))))))))))) e
 
 fired-again : (v : Fired) → fired_in (fired_text v) ≡ Ok v
 unfolding digits
 fired-again Fired.Nothing = refl
+fired-again Fired.Soft = refl
 fired-again (Fired.Code Code.Ok) = refl
 fired-again (Fired.Code _) = refl
 
@@ -419,6 +434,7 @@ received-again v h =
 
 pub value-takes : (f : Field) (w : List ℕ) (v : Value f) → list_all is_printable w ≡ true → value_in f w ≡ Ok v → IsTold f v → (w ≡ spelled f v) × Fits f v
 value-takes (Number low high) w v p e t = let k = number-takes low high w v e in (sym k.0, k.1)
+value-takes Moment w v p e t = moment-takes w v e
 value-takes Levels w v p e t = levels-takes w v e
 value-takes Core w v p e t = (core-takes w v e t, t)
 value-takes Wait w v p e t = wait-takes w v e
@@ -451,6 +467,7 @@ not_digits n v lt h = false_from_ne_true _ (λ e. both_ways _ h (ap (list_all is
 
 pub value-again : (f : Field) (v : Value f) → Fits f v → value_in f (spelled f v) ≡ Ok v
 value-again (Number low high) v h = number-again low high v h.0 h.1 h.2
+value-again Moment v h = moment-again v h
 value-again Levels v h = let t = number_again v (levels_small v h) in rw (t.0, t.1, h) refl
 value-again Core None h = refl
 value-again Core (Some n) h = let t = number_again n (omega (arith, h)) in let small : min n 255 ≡ n = omega (arith, h) in rw (not_digits n (codes "any") (omega (arith, h)) refl, t.0, t.1, small) refl

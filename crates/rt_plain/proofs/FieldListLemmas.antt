@@ -23,7 +23,7 @@ use Rattle.rt_plain.specs.declared.line.Fired.{Fired}
 use Rattle.rt_plain.specs.Texts.{quoted_text, code_or_wait, woke_text, fired_text}
 use Rattle.rt_plain.specs.Words.{code_text, sleep_text, run_mode_text, class_text}
 use Rattle.rt_plain.specs.Splits.{word_at, is_printable, is_empty}
-use Rattle.rt_plain.specs.Fields.{Field, Value, Fits, spelled, value_in, is_digit, Number, Levels, Core, Wait, Named, Indicated, Quoted, Coded, Ordered, Said, Classed, Moded, Ran, Repeated, Started, Armed, How, Keep, OnOff, Powered, Placed, Answered, Woken, Acted, Changed, Received, what_text}
+use Rattle.rt_plain.specs.Fields.{Field, Value, Fits, spelled, value_in, is_digit, Number, Moment, Levels, Core, Wait, Named, Indicated, Quoted, Coded, Ordered, Said, Classed, Moded, Ran, Repeated, Started, Armed, How, Keep, OnOff, Powered, Placed, Answered, Woken, Acted, Changed, Received, what_text}
 use Rattle.rt_plain.specs.FieldLists.{Values, spelled_all, Fit, both, values_in, no_words, Always}
 use Rattle.rt_plain.proofs.NumberLemmas.{own}
 use Rattle.rt_plain.proofs.QuoteLemmas.{text-printable}
@@ -175,6 +175,7 @@ woke_token (Woke.Code v) = code_token v
 
 fired_token : (v : Fired) → is_token (fired_text v) ≡ true
 fired_token Fired.Nothing = refl
+fired_token Fired.Soft = refl
 fired_token (Fired.Code v) = code_token v
 
 change_token : (v : ℕ × ℕ) → Fits Changed v → is_token (spelled Changed v) ≡ true
@@ -191,6 +192,7 @@ is_quoted_field _ = false
 
 field_token : (f : Field) (v : Value f) → is_quoted_field f ≡ false → Fits f v → is_token (spelled f v) ≡ true
 field_token (Number low high) v n h = digits_token v (omega (arith, h.2))
+field_token Moment v n h = digits_token v (omega (arith, h.1))
 field_token Levels v n h = digits_token v (levels_small v h)
 field_token Core None n h = refl
 field_token Core (Some m) n h = digits_token m (omega (arith, h))
@@ -216,6 +218,8 @@ field_token Moded v n h = mode_token v
 field_token Ran v n h = run_token v
 field_token Repeated TimerKind.OneShot n h = refl
 field_token Repeated TimerKind.Periodic n h = refl
+field_token Repeated TimerKind.SoftOne n h = refl
+field_token Repeated TimerKind.SoftPer n h = refl
 field_token Started true n h = refl
 field_token Started false n h = refl
 field_token Armed true n h = refl

@@ -162,7 +162,7 @@ named-kind (Kind.Line _) = refl
 named-kind (Kind.Statement StatementKind.Print) = refl
 named-kind (Kind.Statement _) = refl
 
-pub lines_count : length all_lines ≡ 21
+pub lines_count : length all_lines ≡ 25
 unfolding all_lines
 lines_count = refl
 

@@ -66,7 +66,7 @@ unfolding statement_named statement_word all_statements
 named-statement StatementKind.Print = refl
 named-statement _ = refl
 
-pub statements_count : length all_statements ≡ 46
+pub statements_count : length all_statements ≡ 48
 unfolding all_statements
 statements_count = refl
 

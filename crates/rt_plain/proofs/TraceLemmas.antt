@@ -56,6 +56,8 @@ line-joined (Line.Print t) = words-joined_words (codes "print" ∷ quoted_text t
 line-joined (Line.Close t) = words-joined_words (codes "close" ∷ t ∷ [])
 line-joined (Line.Own o t) = words-joined_words (codes "own" ∷ o ∷ t ∷ [])
 line-joined (Line.Mode m) = words-joined_words (codes "mode" ∷ sleep_text m ∷ [])
+line-joined (Line.Work o f) = words-joined_words (codes "work" ∷ o ∷ fired_text f ∷ [])
+line-joined (Line.Unwork o) = words-joined_words (codes "unwork" ∷ o ∷ [])
 
 shown-spelled : (l : Line) → row_text (Shown l) ≡ spelling (line_kind l) (line_values l)
 shown-spelled l = ap (λ (t : List ℕ). 32 ∷ 32 ∷ t) (line-joined l)
@@ -75,7 +77,7 @@ unfolding trace_named trace_word all_trace_kinds
 word-named TraceKind.Run = refl
 word-named _ = refl
 
-pub kinds-count : length all_trace_kinds ≡ 18
+pub kinds-count : length all_trace_kinds ≡ 20
 unfolding all_trace_kinds
 kinds-count = refl
 

@@ -72,3 +72,11 @@ returns-in-Own c = rw c.in-Own.is (c.know_name-in-Own.ensures, (c.know_name-in-O
 pub returns-in-Mode : goal.returns-in-Mode
 unfolding CanShow
 returns-in-Mode c = rw c.in-Mode.is (tt, tt)
+
+pub returns-in-Work : goal.returns-in-Work
+unfolding CanShow
+returns-in-Work c = rw c.in-Work.is (c.know_name-in-Work.ensures, (tt, tt))
+
+pub returns-in-Unwork : goal.returns-in-Unwork
+unfolding CanShow
+returns-in-Unwork c = rw c.in-Unwork.is (c.know_name-in-Unwork.ensures, tt)
