@@ -3,9 +3,8 @@ use Rattle.std.proofs.Common.{◌≡◌, ◌≢◌, ◌+◌, ◌*◌, ◌≤◌,
 use Rattle.std.specs.List.{AllByRecursion}
 use Rattle.rt_base.specs.declared.codes.Code.{Code}
 use Rattle.rt_base.specs.declared.codes.WaitOrder.{WaitOrder}
-use Rattle.rt_plain.specs.declared.board.Arrival.{Arrival}
 use Rattle.rt_plain.specs.declared.line.Line.{Line}
-use Rattle.rt_plain.specs.State.{State, Active, Waiting, Suspended, Awaited, Thread, Alarm, OfThread, no_thread, thread_at, with_thread, Closed, Sem, Device, EventObj, Timer, Mutex, Mailbox, MsgQueue}
+use Rattle.rt_plain.specs.State.{State, Active, Waiting, Suspended, Awaited, Thread, Alarm, OfThread, no_thread, thread_at, with_thread, Closed, Sem, Device, EventObj, Timer, Mutex, Mailbox, MsgQueue, Arriving}
 use Rattle.rt_plain.specs.Effects.{Effect, no_effect, line_effect, each_effect, with_alarm, waiting_state, active_state, wake_effect, retry_wake_effect, retry_of, due_of, effect_for, name_of, without_core}
 use Rattle.rt_plain.specs.Waiting.{first_waiter, takes_mutex}
 use Rattle.rt_plain.specs.Owners.{with_owner, withdrawn_state, pass_effect, give_back_effect, mutexes_of, close_effect}
@@ -47,7 +46,7 @@ pub record Few (s : State) : Type 0 where
 -- what an action leaves as many as before, or no more
 pub record Stays (s u : State) : Type 0 where
   pub threads : length u.threads ≡ length s.threads
-  pub arrivals : (tick : ℕ) → tally (λ (a : Arrival). eqb a.tick tick) u.arrivals ≤ tally (λ (a : Arrival). eqb a.tick tick) s.arrivals
+  pub arrivals : (moment : ℕ) → tally (λ (a : Arriving). eqb a.moment moment) u.arrivals ≤ tally (λ (a : Arriving). eqb a.moment moment) s.arrivals
   pub devices : length u.devices ≡ length s.devices
   pub timers : length u.timers ≡ length s.timers
   pub few : Few s → Few u
@@ -62,7 +61,7 @@ few-kept s u sems events mutexes mailboxes queues few = few-same s u (ap (λ (xs
 pub stays-parts : (s u : State) → length u.threads ≡ length s.threads → u.arrivals ≡ s.arrivals → u.devices ≡ s.devices → u.timers ≡ s.timers → u.sems ≡ s.sems → u.events ≡ s.events → u.mutexes ≡ s.mutexes → u.mailboxes ≡ s.mailboxes → u.queues ≡ s.queues → Stays s u
 stays-parts s u threads arrivals devices timers sems events mutexes mailboxes queues = record {
   threads = threads;
-  arrivals = λ tick. omega (arith, ap (λ (xs : List Arrival). tally (λ (a : Arrival). eqb a.tick tick) xs) arrivals);
+  arrivals = λ moment. omega (arith, ap (λ (xs : List Arriving). tally (λ (a : Arriving). eqb a.moment moment) xs) arrivals);
   devices = ap (λ (xs : List Device). length xs) devices;
   timers = ap (λ (xs : List Timer). length xs) timers;
   few = few-kept s u sems events mutexes mailboxes queues;
@@ -72,12 +71,12 @@ pub stays-same : (s : State) → Stays s s
 stays-same s = stays-parts s s refl refl refl refl refl refl refl refl refl
 
 pub stays-then : (s u v : State) → Stays s u → Stays u v → Stays s v
-stays-then s u v one other = record { threads = other.threads ∙ one.threads; arrivals = λ tick. omega (arith, one.arrivals tick, other.arrivals tick); devices = other.devices ∙ one.devices; timers = other.timers ∙ one.timers; few = λ few. other.few (one.few few) }
+stays-then s u v one other = record { threads = other.threads ∙ one.threads; arrivals = λ moment. omega (arith, one.arrivals moment, other.arrivals moment); devices = other.devices ∙ one.devices; timers = other.timers ∙ one.timers; few = λ few. other.few (one.few few) }
 
--- the lines of an action, with two for each thread that waits after it, are two for each that waited before and c more. A line, and each of the c more, pays for two numbers
+-- the lines of an action, with two for each thread that waits after it, are two for each that waited before and c more; it takes c numbers at most
 pub record Costs (s : State) (e : Effect) (c : ℕ) : Type 0 where
   pub lines : length e.lines + 2 * waits e.state ≤ 2 * waits s + c
-  pub numbers : e.state.numbers ≤ s.numbers + 2 * length e.lines + 2 * c
+  pub numbers : e.state.numbers ≤ s.numbers + c
   pub stays : Stays s e.state
 
 pub costs-more : (s : State) (e : Effect) (c d : ℕ) → c ≤ d → Costs s e c → Costs s e d
