@@ -1,24 +1,25 @@
 -- What each action keeps, and how the small changes of a state keep it.
-use Rattle.std.proofs.Common.{◌≡◌, ◌≢◌, ◌⊎◌, inl, inr, ◌+◌, ◌≤◌, ◌<◌, ◌∷◌, [], ◌++◌, ℕ, List, Option, Some, None, Bool, true, false, not, length, eqb, refl, sym, ap, ◌∙◌, subst, arith, eq-eqb, eqb-true, ne_eqb, slice_index_or, slice_set, filter, map, bytes_eq, if◌then◌else◌}
+use Rattle.std.proofs.Common.{◌≡◌, ◌≢◌, ◌⊎◌, inl, inr, ◌+◌, ◌≤◌, ◌<◌, ◌∷◌, [], ◌++◌, ℕ, List, Option, Some, None, Bool, true, false, not, length, eqb, refl, sym, ap, ◌∙◌, subst, arith, eq-eqb, eqb-true, ne_eqb, slice_index_or, slice_set, filter, map, bytes_eq, if◌then◌else◌, ◌||◌, Contains}
 use Rattle.std.specs.List.{AllByRecursion, list_any}
 use Rattle.std.proofs.lemmas.Slice.Eq.{bytes_eq-Decides}
 use Rattle.std.proofs.lemmas.Bool.{eqb-false}
 use Rattle.std.proofs.lemmas.List.{length-map}
 use Rattle.rt_base.specs.declared.codes.Halt.{Halt}
+use Rattle.rt_plain.specs.declared.board.TimerDef.{TimerDef}
 use Rattle.rt_plain.specs.PlainBoard.{PlainBoard}
-use Rattle.rt_plain.specs.State.{State, Stage, Active, Waiting, Closed, Suspended, Awaited, InCall, AtConsole, Retry, Thread, Timer, Nest, Alarm, OfThread, OfTimer, ArmedRow, no_thread, thread_at, with_thread, running_on, is_number, is_closed, is_nest_of}
+use Rattle.rt_plain.specs.State.{State, Stage, Active, Waiting, Closed, Suspended, Awaited, InCall, AtConsole, AtWorks, Retry, Thread, Timer, Nest, Alarm, OfThread, OfTimer, ArmedRow, no_thread, thread_at, with_thread, running_on, is_number, is_closed, is_nest_of}
 use Rattle.rt_plain.specs.Effects.{with_ready_last, with_ready_first, without_ready, without_core, is_alarm, without_alarm, with_alarm, waiting_state, active_state}
-use Rattle.rt_plain.specs.Statements.{is_shell, script_of}
+use Rattle.rt_plain.specs.Statements.{is_shell, is_soft_thread, script_of}
 use Rattle.rt_plain.specs.ThreadCalls.{suspended_state}
 use Rattle.rt_plain.specs.Owners.{nest_without, withdrawn_state}
 use Rattle.rt_plain.specs.Calls.{is_moved, reordered_state}
 use Rattle.rt_plain.specs.Steps.{with_running, without_mark, preempted_state}
 use Rattle.rt_plain.specs.Runs.{thread_count}
 use Rattle.rt_plain.specs.Sound.{is_active, is_waiting, is_timed_call, is_timed_action}
-use Rattle.rt_plain.proofs.TallyLemmas.{one_if, tally, tally-last, tally-split, tally-filter, tally-without_same, tally-without_other, tally-left_same, tally-left_other, tally-set, tally-at, tally-twice, all-filter, all-passing, all-append, all-at, all-set, same-set, other-set, here-set, past-end, length-set_at, map-at, le_or_lt}
+use Rattle.rt_plain.proofs.TallyLemmas.{one_if, tally, tally-last, tally-split, tally-filter, tally-without_same, tally-without_other, tally-left_same, tally-left_other, tally-set, tally-at, tally-twice, all-weaker, all-filter, all-passing, all-append, all-at, all-set, same-set, other-set, here-set, past-end, length-set_at, map-at, le_or_lt}
 use Rattle.rt_plain.proofs.TestLemmas.{some-is, clash}
 
--- what an action is made under: the board, the tick of now, the least tick at which a row may be due, how many rows are due now at most, and the latest tick at which a machine hasn't halted
+-- what an action is made under: the board, the moment of now, the least moment at which a row may be due, how many rows are due now at most, and the latest moment at which a machine hasn't halted
 pub record Frame : Type 0 where
   pub board : PlainBoard
   pub now : ℕ
@@ -29,37 +30,52 @@ pub record Frame : Type 0 where
 
 -- the parts of a state that it speaks of
 pub record Parts : Type 0 where
-  pub tick : ℕ
+  pub moment : ℕ
+  pub numbers : ℕ
   pub threads : List Thread
   pub ready : List ℕ
   pub running : List (Option ℕ)
   pub armed : List (ArmedRow Alarm)
+  pub works : List (List ℕ)
   pub nest : Option Nest
   pub timers : List Timer
   pub halt : Option Halt
 
 abbrev pub parts : State → Parts
-parts s = record { tick = s.tick; threads = s.threads; ready = s.ready; running = s.running; armed = s.armed; nest = s.nest; timers = s.timers; halt = s.halt }
+parts s = record { moment = s.moment; numbers = s.numbers; threads = s.threads; ready = s.ready; running = s.running; armed = s.armed; works = s.works; nest = s.nest; timers = s.timers; halt = s.halt }
 
 -- what waits, or is to be made again, is timed
 abbrev pub is_fine_awaited : Awaited → Bool
 is_fine_awaited (InCall call) = is_timed_call call
 is_fine_awaited AtConsole = true
+is_fine_awaited AtWorks = true
 
 abbrev pub is_fine_stage : Stage → Bool
 is_fine_stage (Waiting what number) = is_fine_awaited what
 is_fine_stage _ = true
 
-abbrev pub is_fine_retry : Option Retry → Bool
-is_fine_retry None = true
-is_fine_retry (Some retry) = is_fine_awaited retry.what
+-- a due moment, if there is one, is no further ahead of now than a row may be
+abbrev pub IsNear : ℕ → Option ℕ → Type 0
+IsNear now due = (d : ℕ) → due ≡ Some d → d ≤ now + 2147483647
+
+-- and it is ahead
+abbrev pub IsAhead : ℕ → Option ℕ → Type 0
+IsAhead now due = (d : ℕ) → due ≡ Some d → (now < d) × (d ≤ now + 2147483647)
+
+abbrev pub IsFineRetry : ℕ → Option Retry → Type 0
+IsFineRetry now None = Unit {0}
+IsFineRetry now (Some retry) = (is_fine_awaited retry.what ≡ true) × IsNear now retry.due
 
 -- and a thread that isn't closed stands at a statement of its script, or behind it
-abbrev pub IsFineThread : PlainBoard → Thread → Type 0
-IsFineThread b row = (is_fine_stage row.stage ≡ true) × (is_fine_retry row.retry ≡ true) × (is_closed row.stage ≡ false → row.next ≤ length (script_of b row.name) + 2)
+abbrev pub IsFineThread : PlainBoard → ℕ → Thread → Type 0
+IsFineThread b now row = (is_fine_stage row.stage ≡ true) × IsFineRetry now row.retry × (is_closed row.stage ≡ false → row.next ≤ length (script_of b row.name) + 2)
 
-abbrev pub IsFineTimer : Timer → Type 0
-IsFineTimer timer = (1 ≤ timer.time) × (is_timed_action timer.call ≡ true)
+-- a timer is one of the board's, but for its time
+abbrev pub IsBoardTimer : PlainBoard → Timer → Type 0
+IsBoardTimer b timer = (def : TimerDef) × Contains b.timers def × (timer.name ≡ def.name) × (timer.kind ≡ def.kind) × (timer.call ≡ def.call)
+
+abbrev pub IsFineTimer : PlainBoard → Timer → Type 0
+IsFineTimer b timer = (1 ≤ timer.time) × (timer.time ≤ 2147483647) × (is_timed_action timer.call ≡ true) × IsBoardTimer b timer
 
 -- whether an alarm is that of a timer that is there, or of a thread
 abbrev pub is_owned : List Timer → Alarm → Bool
@@ -78,32 +94,50 @@ IsWaited threads (OfTimer name) = Unit {0}
 abbrev pub IsRowKept : ℕ → List Thread → ArmedRow Alarm → Type 0
 IsRowKept low threads row = (low ≤ row.due) × IsWaited threads row.alarm
 
+-- no row is further ahead than it may be, and its start number was given
+abbrev pub IsRowBounded : ℕ → ℕ → ArmedRow Alarm → Type 0
+IsRowBounded now numbers row = (row.due ≤ now + 2147483647) × (row.number < numbers)
+
 -- a timer's row is that of a timer that is there
 abbrev pub IsOwned : List Timer → ArmedRow Alarm → Type 0
 IsOwned timers row = is_owned timers row.alarm ≡ true
+
+-- whether a work is that of an alarm's timer
+abbrev pub is_work_of : Alarm → List ℕ → Bool
+is_work_of (OfThread t) work = false
+is_work_of (OfTimer name) work = bytes_eq work name
+
+-- how often an alarm is armed or stands among the works
+abbrev pub standings : Alarm → List (List ℕ) → List (ArmedRow Alarm) → ℕ
+standings alarm works armed = tally (is_work_of alarm) works + tally (λ row. is_alarm alarm row.alarm) armed
 
 -- how often a thread stands in the ready list and on cores
 abbrev pub places : List ℕ → List (Option ℕ) → ℕ → ℕ
 places ready running t = tally (λ u. eqb u t) ready + tally (is_number t) running
 
--- the core that holds the lock over all cores runs a thread other than the shell's
+-- whether a thread is that of the shell or of soft timers, which have no script
+abbrev pub is_scriptless : PlainBoard → ℕ → Bool
+is_scriptless b t = is_shell b t || is_soft_thread b t
+
+-- the core that holds the lock over all cores runs a thread with a script
 abbrev pub IsNestRun : PlainBoard → List (Option ℕ) → Option Nest → Type 0
-IsNestRun b running nest = (n : Nest) → nest ≡ Some n → (r : ℕ) × (slice_index_or running n.core None ≡ Some r) × (is_shell b r ≡ false)
+IsNestRun b running nest = (n : Nest) → nest ≡ Some n → (r : ℕ) × (slice_index_or running n.core None ≡ Some r) × (is_scriptless b r ≡ false)
 
 pub record Holds (f : Frame) (p : Parts) : Type 0 where
-  pub tick_is : p.tick ≡ f.now
-  pub live : 1 ≤ f.board.until → p.halt ≡ None → p.tick ≤ f.latest
+  pub moment_is : p.moment ≡ f.now
+  pub live : 1 ≤ f.board.until → p.halt ≡ None → p.moment ≤ f.latest
   pub ends : (halt : Halt) → p.halt ≡ Some halt → halt ≡ Halt.Until
   pub count : length p.threads ≡ thread_count f.board
   pub cores : length p.running ≡ f.board.cores
   pub placed : (t : ℕ) → places p.ready p.running t ≡ one_if (is_active (stage_at p.threads t))
   pub rows : AllByRecursion (IsRowKept f.low p.threads) p.armed
+  pub bounded : AllByRecursion (IsRowBounded f.now p.numbers) p.armed
   pub due_few : tally (λ row. eqb row.due f.now) p.armed ≤ f.few
-  pub single : (alarm : Alarm) → tally (λ row. is_alarm alarm row.alarm) p.armed ≤ 1
+  pub single : (alarm : Alarm) → standings alarm p.works p.armed ≤ 1
   pub owned : AllByRecursion (IsOwned p.timers) p.armed
-  pub fine : AllByRecursion (IsFineThread f.board) p.threads
+  pub fine : AllByRecursion (IsFineThread f.board f.now) p.threads
   pub nest_runs : IsNestRun f.board p.running p.nest
-  pub timers_fine : AllByRecursion IsFineTimer p.timers
+  pub timers_fine : AllByRecursion (IsFineTimer f.board) p.timers
 
 -- what is kept
 abbrev pub Kept : Frame → State → Type 0
@@ -117,12 +151,26 @@ rows-stay low threads news (row ∷ rows) waits all = ((all.0.0, by_alarm row.al
   by_alarm (OfThread t) is = waits t is
   by_alarm (OfTimer name) is = tt
 
-fine-none : (b : PlainBoard) → IsFineThread b no_thread
-fine-none b = (refl, refl, λ is. absurd cc)
+fine-none : (b : PlainBoard) (now : ℕ) → IsFineThread b now no_thread
+fine-none b now = (refl, tt, λ is. absurd cc)
 
 -- a thread's row is fine
-pub fine-at : (f : Frame) (s : State) (t : ℕ) → Kept f s → IsFineThread f.board (thread_at s t)
-fine-at f s t kept = all-at (IsFineThread f.board) s.threads t no_thread (fine-none f.board) kept.fine
+pub fine-at : (f : Frame) (s : State) (t : ℕ) → Kept f s → IsFineThread f.board f.now (thread_at s t)
+fine-at f s t kept = all-at (IsFineThread f.board f.now) s.threads t no_thread (fine-none f.board f.now) kept.fine
+
+-- what is no further ahead than it may be stays so
+near-later : (now : ℕ) (due : Option ℕ) → IsNear now due → IsNear (now + 1) due
+near-later now due near d is = omega (arith, near d is)
+
+retry-later : (now : ℕ) (retry : Option Retry) → IsFineRetry now retry → IsFineRetry (now + 1) retry
+retry-later now None fine = tt
+retry-later now (Some retry) fine = (fine.0, near-later now retry.due fine.1)
+
+pub fine-later : (b : PlainBoard) (now : ℕ) (threads : List Thread) → AllByRecursion (IsFineThread b now) threads → AllByRecursion (IsFineThread b (now + 1)) threads
+fine-later b now threads all = all-weaker (IsFineThread b now) (IsFineThread b (now + 1)) threads (λ row is. (is.0, retry-later now row.retry is.1, is.2)) all
+
+pub bounded-later : (now numbers : ℕ) (armed : List (ArmedRow Alarm)) → AllByRecursion (IsRowBounded now numbers) armed → AllByRecursion (IsRowBounded (now + 1) numbers) armed
+bounded-later now numbers armed all = all-weaker (IsRowBounded now numbers) (IsRowBounded (now + 1) numbers) armed (λ row is. (omega (arith, is.0), is.1)) all
 
 -- a thread that isn't closed is there
 pub is-there : (threads : List Thread) (t : ℕ) → is_closed (stage_at threads t) ≡ false → t < length threads
@@ -134,19 +182,20 @@ is-there threads t open_stage = by_place (le_or_lt (length threads) t) where
   by_place (inr lt) = lt
 
 -- another row of a thread, in the same stage
-pub thread-kept : (f : Frame) (s : State) (t : ℕ) (row : Thread) → row.stage ≡ (thread_at s t).stage → IsFineThread f.board row → Kept f s → Kept f (with_thread s t row)
+pub thread-kept : (f : Frame) (s : State) (t : ℕ) (row : Thread) → row.stage ≡ (thread_at s t).stage → IsFineThread f.board f.now row → Kept f s → Kept f (with_thread s t row)
 thread-kept f s t row same fine kept = record {
-  tick_is = kept.tick_is;
+  moment_is = kept.moment_is;
   live = kept.live;
   ends = kept.ends;
   count = length-set_at s.threads t row ∙ kept.count;
   cores = kept.cores;
   placed = λ u. kept.placed u ∙ ap (λ stage. one_if (is_active stage)) (sym (stays u));
   rows = rows-stay f.low s.threads (slice_set s.threads t row) s.armed (λ u is. ap is_waiting (stays u) ∙ is) kept.rows;
+  bounded = kept.bounded;
   due_few = kept.due_few;
   single = kept.single;
   owned = kept.owned;
-  fine = all-set (IsFineThread f.board) s.threads t row fine kept.fine;
+  fine = all-set (IsFineThread f.board f.now) s.threads t row fine kept.fine;
   nest_runs = kept.nest_runs;
   timers_fine = kept.timers_fine;
 } where
@@ -186,13 +235,14 @@ rows-without low threads t row armed all = all-passing (IsRowKept low threads) (
 -- nothing is armed for it any more
 pub without_alarm-kept : (f : Frame) (s : State) (alarm : Alarm) → Kept f s → Kept f (without_alarm s alarm)
 without_alarm-kept f s alarm kept = record {
-  tick_is = kept.tick_is;
+  moment_is = kept.moment_is;
   live = kept.live;
   ends = kept.ends;
   count = kept.count;
   cores = kept.cores;
   placed = kept.placed;
   rows = rows-dropped f.low s.threads alarm s.armed kept.rows;
+  bounded = all-filter (IsRowBounded f.now s.numbers) (λ r. not (is_alarm alarm r.alarm)) s.armed kept.bounded;
   due_few = omega (arith, kept.due_few, tally-filter (λ (row : ArmedRow Alarm). eqb row.due f.now) (λ r. not (is_alarm alarm r.alarm)) s.armed);
   single = λ other. omega (arith, kept.single other, tally-filter (λ (r : ArmedRow Alarm). is_alarm other r.alarm) (λ r. not (is_alarm alarm r.alarm)) s.armed);
   owned = all-filter (IsOwned s.timers) (λ r. not (is_alarm alarm r.alarm)) s.armed kept.owned;
@@ -208,33 +258,40 @@ alarm-is (OfTimer a) (OfTimer c) is = ap OfTimer ((bytes_eq-Decides a c).0 is)
 alarm-is (OfThread t) (OfTimer c) is = absurd cc
 alarm-is (OfTimer a) (OfThread u) is = absurd cc
 
-pub alone-more : (armed : List (ArmedRow Alarm)) (row : ArmedRow Alarm) → tally (λ (r : ArmedRow Alarm). is_alarm row.alarm r.alarm) armed ≡ 0 → ((alarm : Alarm) → tally (λ (r : ArmedRow Alarm). is_alarm alarm r.alarm) armed ≤ 1)
-    → (alarm : Alarm) → tally (λ (r : ArmedRow Alarm). is_alarm alarm r.alarm) (armed ++ row ∷ []) ≤ 1
-alone-more armed row alone single alarm = by_test (is_alarm alarm row.alarm) refl where
-  by_test : (c : Bool) → is_alarm alarm row.alarm ≡ c → tally (λ (r : ArmedRow Alarm). is_alarm alarm r.alarm) (armed ++ row ∷ []) ≤ 1
-  by_test true is = omega (arith, tally-last (λ (r : ArmedRow Alarm). is_alarm alarm r.alarm) armed row, ap one_if is, subst (λ a. tally (λ (r : ArmedRow Alarm). is_alarm a r.alarm) armed ≡ 0) (sym (alarm-is alarm row.alarm is)) alone)
+pub alone-more : (works : List (List ℕ)) (armed : List (ArmedRow Alarm)) (row : ArmedRow Alarm) → standings row.alarm works armed ≡ 0 → ((alarm : Alarm) → standings alarm works armed ≤ 1) → (alarm : Alarm) → standings alarm works (armed ++ row ∷ []) ≤ 1
+alone-more works armed row alone single alarm = by_test (is_alarm alarm row.alarm) refl where
+  by_test : (c : Bool) → is_alarm alarm row.alarm ≡ c → standings alarm works (armed ++ row ∷ []) ≤ 1
+  by_test true is = omega (arith, tally-last (λ (r : ArmedRow Alarm). is_alarm alarm r.alarm) armed row, ap one_if is, subst (λ a. standings a works armed ≡ 0) (sym (alarm-is alarm row.alarm is)) alone)
   by_test false is = omega (arith, tally-last (λ (r : ArmedRow Alarm). is_alarm alarm r.alarm) armed row, ap one_if is, single alarm)
 
--- a row for what waits, or for a timer, is armed for a later tick
-pub with_alarm-kept : (f : Frame) (s : State) (alarm : Alarm) (due : Option ℕ) → tally (λ (row : ArmedRow Alarm). is_alarm alarm row.alarm) s.armed ≡ 0 → is_owned s.timers alarm ≡ true → IsWaited s.threads alarm → f.low ≤ f.now + 1 → ((d : ℕ) → due ≡ Some d → f.now < d) → Kept f s → Kept f (with_alarm s alarm due)
-with_alarm-kept f s alarm None alone owner waits low later kept = kept
-with_alarm-kept f s alarm (Some d) alone owner waits low later kept = record {
-  tick_is = kept.tick_is;
+-- the next number is given
+pub bounded-more : (now numbers : ℕ) (armed : List (ArmedRow Alarm)) → AllByRecursion (IsRowBounded now numbers) armed → AllByRecursion (IsRowBounded now (numbers + 1)) armed
+bounded-more now numbers armed all = all-weaker (IsRowBounded now numbers) (IsRowBounded now (numbers + 1)) armed (λ row is. (is.0, omega (arith, is.1))) all
+
+-- a row for what waits, or for a timer that is no work, is armed for a later moment
+pub with_alarm-kept : (f : Frame) (s : State) (alarm : Alarm) (due : Option ℕ) → standings alarm s.works s.armed ≡ 0 → is_owned s.timers alarm ≡ true → IsWaited s.threads alarm → IsAhead f.now due → Kept f s → Kept f (with_alarm s alarm due)
+with_alarm-kept f s alarm None alone owner waits ahead kept = kept
+with_alarm-kept f s alarm (Some d) alone owner waits ahead kept = record {
+  moment_is = kept.moment_is;
   live = kept.live;
   ends = kept.ends;
   count = kept.count;
   cores = kept.cores;
   placed = kept.placed;
-  rows = all-append (IsRowKept f.low s.threads) s.armed (record { due = d; number = s.numbers; alarm = alarm } ∷ []) kept.rows ((omega (arith, low, later d refl), waits), tt);
-  due_few = omega (arith, kept.due_few, tally-last (λ (row : ArmedRow Alarm). eqb row.due f.now) s.armed (record { due = d; number = s.numbers; alarm = alarm }), undue);
-  single = λ other. alone-more s.armed (record { due = d; number = s.numbers; alarm = alarm }) alone kept.single other;
-  owned = all-append (IsOwned s.timers) s.armed (record { due = d; number = s.numbers; alarm = alarm } ∷ []) kept.owned (owner, tt);
+  rows = all-append (IsRowKept f.low s.threads) s.armed (row ∷ []) kept.rows ((omega (arith, f.fits, (ahead d refl).0), waits), tt);
+  bounded = all-append (IsRowBounded f.now (s.numbers + 1)) s.armed (row ∷ []) (bounded-more f.now s.numbers s.armed kept.bounded) (((ahead d refl).1, omega arith), tt);
+  due_few = omega (arith, kept.due_few, tally-last (λ (r : ArmedRow Alarm). eqb r.due f.now) s.armed row, undue);
+  single = alone-more s.works s.armed row alone kept.single;
+  owned = all-append (IsOwned s.timers) s.armed (row ∷ []) kept.owned (owner, tt);
   fine = kept.fine;
   nest_runs = kept.nest_runs;
   timers_fine = kept.timers_fine;
 } where
+  row : ArmedRow Alarm
+  row = record { due = d; number = s.numbers; alarm = alarm }
+
   undue : one_if (eqb d f.now) ≡ 0
-  undue = let after : f.now < d = later d refl in rw (ne_eqb d f.now (omega (arith, after))) refl
+  undue = let after : f.now < d = (ahead d refl).0 in rw (ne_eqb d f.now (omega (arith, after))) refl
 
 some-number : (t : ℕ) (r : Option ℕ) → r ≡ Some t → is_number t r ≡ true
 some-number t r is = rw is (eq-eqb t t refl)
@@ -291,7 +348,7 @@ last-same ready t = omega (arith, tally-last (λ v. eqb v t) ready t, ap one_if 
 -- a thread that is in no place, but there, becomes active
 pub active-kept : (f : Frame) (s : State) (t : ℕ) → is_active (thread_at s t).stage ≡ false → is_closed (thread_at s t).stage ≡ false → Kept f s → Kept f (active_state s t)
 active-kept f s t idle open_stage kept = record {
-  tick_is = kept.tick_is;
+  moment_is = kept.moment_is;
   live = kept.live;
   ends = kept.ends;
   count = length-set_at s.threads t (record (thread_at s t) { stage = Active }) ∙ kept.count;
@@ -299,10 +356,11 @@ active-kept f s t idle open_stage kept = record {
   placed = placed-set s.threads t (record (thread_at s t) { stage = Active }) s.ready (s.ready ++ t ∷ []) s.running s.running (active-here s.threads t (record (thread_at s t) { stage = Active }) (is-there s.threads t open_stage)) kept.placed
       (λ u apart. omega (arith, last-other s.ready t u apart)) (omega (arith, last-same s.ready t, kept.placed t, ap one_if idle));
   rows = rows-without f.low s.threads t (record (thread_at s t) { stage = Active }) s.armed kept.rows;
+  bounded = all-filter (IsRowBounded f.now s.numbers) (λ r. not (is_alarm (OfThread t) r.alarm)) s.armed kept.bounded;
   due_few = omega (arith, kept.due_few, tally-filter (λ (row : ArmedRow Alarm). eqb row.due f.now) (λ r. not (is_alarm (OfThread t) r.alarm)) s.armed);
   single = λ other. omega (arith, kept.single other, tally-filter (λ (r : ArmedRow Alarm). is_alarm other r.alarm) (λ r. not (is_alarm (OfThread t) r.alarm)) s.armed);
   owned = all-filter (IsOwned s.timers) (λ r. not (is_alarm (OfThread t) r.alarm)) s.armed kept.owned;
-  fine = all-set (IsFineThread f.board) s.threads t (record (thread_at s t) { stage = Active }) (refl, (fine-at f s t kept).1, λ is. (fine-at f s t kept).2 open_stage) kept.fine;
+  fine = all-set (IsFineThread f.board f.now) s.threads t (record (thread_at s t) { stage = Active }) (refl, (fine-at f s t kept).1, λ is. (fine-at f s t kept).2 open_stage) kept.fine;
   nest_runs = kept.nest_runs;
   timers_fine = kept.timers_fine;
 }
@@ -324,7 +382,7 @@ nest-left f s t kept off n is = by_test (is_number t (Some r)) refl where
   runs : slice_index_or s.running n.core None ≡ Some r
   runs = (kept.nest_runs n is).1
 
-  by_test : (c : Bool) → is_number t (Some r) ≡ c → (q : ℕ) × (slice_index_or (without_core s t).running n.core None ≡ Some q) × (is_shell f.board q ≡ false)
+  by_test : (c : Bool) → is_number t (Some r) ≡ c → (q : ℕ) × (slice_index_or (without_core s t).running n.core None ≡ Some q) × (is_scriptless f.board q ≡ false)
   by_test true same = absurd (off n is (runs ∙ ap (λ x. Some x) (sym (eqb-true t r same))))
   by_test false apart = (r, left-at s.running t n.core r runs apart, (kept.nest_runs n is).2)
 
@@ -360,9 +418,16 @@ no-rows low threads t (row ∷ rows) idle all = omega (arith, here row.alarm all
     by_test false is = refl
     by_test true is = absurd (clash (is_waiting (stage_at threads u)) waits (subst (λ v. is_waiting (stage_at threads v) ≡ false) (eqb-true t u is) idle))
 
+no-works : (t : ℕ) (works : List (List ℕ)) → tally (is_work_of (OfThread t)) works ≡ 0
+no-works t [] = refl
+no-works t (work ∷ works) = omega (arith, no-works t works)
+
 -- a running thread waits
-pub waiting-kept : (f : Frame) (s : State) (t core : ℕ) (what : Awaited) (due : Option ℕ) → running_on s core ≡ Some t → IsOffNest (parts s) t → is_fine_awaited what ≡ true → f.low ≤ f.now + 1 → ((d : ℕ) → due ≡ Some d → f.now < d) → Kept f s → Kept f (waiting_state s t what due)
-waiting-kept f s t core what due runs off fine low later kept = with_alarm-kept f joined (OfThread t) due (no-rows f.low s.threads t s.armed (active-waitless (thread_at s t).stage (running-active f s core t kept runs)) kept.rows) refl waits low later joined-kept where
+pub waiting-kept : (f : Frame) (s : State) (t core : ℕ) (what : Awaited) (due : Option ℕ) → running_on s core ≡ Some t → IsOffNest (parts s) t → is_fine_awaited what ≡ true → IsAhead f.now due → Kept f s → Kept f (waiting_state s t what due)
+waiting-kept f s t core what due runs off fine ahead kept = with_alarm-kept f joined (OfThread t) due alone refl waits ahead joined-kept where
+  alone : standings (OfThread t) s.works s.armed ≡ 0
+  alone = omega (arith, no-works t s.works, no-rows f.low s.threads t s.armed (active-waitless (thread_at s t).stage (running-active f s core t kept runs)) kept.rows)
+
   row : Thread
   row = record (thread_at s t) { stage = Waiting what s.numbers }
 
@@ -383,7 +448,7 @@ waiting-kept f s t core what due runs off fine low later kept = with_alarm-kept 
 
   joined-kept : Kept f joined
   joined-kept = record {
-    tick_is = kept.tick_is;
+    moment_is = kept.moment_is;
     live = kept.live;
     ends = kept.ends;
     count = length-set_at s.threads t row ∙ kept.count;
@@ -391,10 +456,11 @@ waiting-kept f s t core what due runs off fine low later kept = with_alarm-kept 
     placed = placed-set s.threads t row s.ready s.ready s.running (without_core s t).running (active-here s.threads t row there) kept.placed
         (λ u apart. omega (arith, tally-left_other t u s.running apart)) (omega (arith, tally-left_same t s.running, kept.placed t, running-count s.running core t runs, one (is_active (stage_at s.threads t))));
     rows = rows-stay f.low s.threads (slice_set s.threads t row) s.armed still kept.rows;
+    bounded = bounded-more f.now s.numbers s.armed kept.bounded;
     due_few = kept.due_few;
     single = kept.single;
     owned = kept.owned;
-    fine = all-set (IsFineThread f.board) s.threads t row (fine, (fine-at f s t kept).1, λ is. (fine-at f s t kept).2 (active-open (thread_at s t).stage (running-active f s core t kept runs))) kept.fine;
+    fine = all-set (IsFineThread f.board f.now) s.threads t row (fine, (fine-at f s t kept).1, λ is. (fine-at f s t kept).2 (active-open (thread_at s t).stage (running-active f s core t kept runs))) kept.fine;
     nest_runs = nest-left f s t kept off;
     timers_fine = kept.timers_fine;
   } where
@@ -409,7 +475,7 @@ one-most false = omega arith
 -- an active thread that runs on no core with the lock over all cores suspends
 pub suspended-kept : (f : Frame) (s : State) (t : ℕ) → is_active (thread_at s t).stage ≡ true → IsOffNest (parts s) t → Kept f s → Kept f (suspended_state s t)
 suspended-kept f s t active off kept = record {
-  tick_is = kept.tick_is;
+  moment_is = kept.moment_is;
   live = kept.live;
   ends = kept.ends;
   count = length-set_at s.threads t row ∙ kept.count;
@@ -417,10 +483,11 @@ suspended-kept f s t active off kept = record {
   placed = placed-set s.threads t row s.ready (without_ready s t).ready s.running (without_core s t).running (active-here s.threads t row (is-there s.threads t (active-open (thread_at s t).stage active))) kept.placed
       (λ u apart. omega (arith, tally-left_other t u s.running apart, tally-without_other t u s.ready apart)) (omega (arith, tally-left_same t s.running, tally-without_same t s.ready));
   rows = rows-stay f.low s.threads (slice_set s.threads t row) s.armed still kept.rows;
+  bounded = kept.bounded;
   due_few = kept.due_few;
   single = kept.single;
   owned = kept.owned;
-  fine = all-set (IsFineThread f.board) s.threads t row (refl, (fine-at f s t kept).1, λ is. (fine-at f s t kept).2 (active-open (thread_at s t).stage active)) kept.fine;
+  fine = all-set (IsFineThread f.board f.now) s.threads t row (refl, (fine-at f s t kept).1, λ is. (fine-at f s t kept).2 (active-open (thread_at s t).stage active)) kept.fine;
   nest_runs = nest-left f s t kept off;
   timers_fine = kept.timers_fine;
 } where
@@ -442,12 +509,12 @@ suspended-kept f s t active off kept = record {
 ended-nest : (f : Frame) (s : State) (t : ℕ) → Kept f s → (o : Option Nest) → o ≡ s.nest → IsNestRun f.board (without_core s t).running (nest_without s t o)
 ended-nest f s t kept None is n ends = absurd cc
 ended-nest f s t kept (Some m) is n ends = by_test (is_number t (running_on s m.core)) refl ends where
-  stays : (q : ℕ) × (running_on s m.core ≡ Some q) × (is_shell f.board q ≡ false) → is_number t (running_on s m.core) ≡ false → (r : ℕ) × (slice_index_or (without_core s t).running m.core None ≡ Some r) × (is_shell f.board r ≡ false)
+  stays : (q : ℕ) × (running_on s m.core ≡ Some q) × (is_scriptless f.board q ≡ false) → is_number t (running_on s m.core) ≡ false → (r : ℕ) × (slice_index_or (without_core s t).running m.core None ≡ Some r) × (is_scriptless f.board r ≡ false)
   stays runs off = (runs.0, left-at s.running t m.core runs.0 runs.1 (ap (is_number t) (sym runs.1) ∙ off), runs.2)
 
-  by_test : (c : Bool) → is_number t (running_on s m.core) ≡ c → (if c then None else Some m) ≡ Some n → (r : ℕ) × (slice_index_or (without_core s t).running n.core None ≡ Some r) × (is_shell f.board r ≡ false)
+  by_test : (c : Bool) → is_number t (running_on s m.core) ≡ c → (if c then None else Some m) ≡ Some n → (r : ℕ) × (slice_index_or (without_core s t).running n.core None ≡ Some r) × (is_scriptless f.board r ≡ false)
   by_test true off ends = absurd cc
-  by_test false off ends = subst (λ (x : Nest). (r : ℕ) × (slice_index_or (without_core s t).running x.core None ≡ Some r) × (is_shell f.board r ≡ false)) (some-is m n ends) (stays (kept.nest_runs m (sym is)) off)
+  by_test false off ends = subst (λ (x : Nest). (r : ℕ) × (slice_index_or (without_core s t).running x.core None ≡ Some r) × (is_scriptless f.board r ≡ false)) (some-is m n ends) (stays (kept.nest_runs m (sym is)) off)
 
 closed-here : (threads : List Thread) (t : ℕ) (row : Thread) → row.stage ≡ Closed → one_if (is_active (stage_at (slice_set threads t row) t)) ≡ one_if (is_active row.stage)
 closed-here threads t row is = by_place (le_or_lt (length threads) t) where
@@ -457,7 +524,7 @@ closed-here threads t row is = by_place (le_or_lt (length threads) t) where
 
 pub withdrawn-kept : (f : Frame) (s : State) (t : ℕ) → Kept f s → Kept f (withdrawn_state s t)
 withdrawn-kept f s t kept = record {
-  tick_is = kept.tick_is;
+  moment_is = kept.moment_is;
   live = kept.live;
   ends = kept.ends;
   count = length-set_at s.threads t row ∙ kept.count;
@@ -465,26 +532,47 @@ withdrawn-kept f s t kept = record {
   placed = placed-set s.threads t row s.ready (without_ready s t).ready s.running (without_core s t).running (closed-here s.threads t row refl) kept.placed
       (λ u apart. omega (arith, tally-left_other t u s.running apart, tally-without_other t u s.ready apart)) (omega (arith, tally-left_same t s.running, tally-without_same t s.ready));
   rows = rows-without f.low s.threads t row s.armed kept.rows;
+  bounded = all-filter (IsRowBounded f.now s.numbers) (λ r. not (is_alarm (OfThread t) r.alarm)) s.armed kept.bounded;
   due_few = omega (arith, kept.due_few, tally-filter (λ (row : ArmedRow Alarm). eqb row.due f.now) (λ r. not (is_alarm (OfThread t) r.alarm)) s.armed);
   single = λ other. omega (arith, kept.single other, tally-filter (λ (r : ArmedRow Alarm). is_alarm other r.alarm) (λ r. not (is_alarm (OfThread t) r.alarm)) s.armed);
   owned = all-filter (IsOwned s.timers) (λ r. not (is_alarm (OfThread t) r.alarm)) s.armed kept.owned;
-  fine = all-set (IsFineThread f.board) s.threads t row (refl, refl, λ is. absurd cc) kept.fine;
+  fine = all-set (IsFineThread f.board f.now) s.threads t row (refl, tt, λ is. absurd cc) kept.fine;
   nest_runs = ended-nest f s t kept s.nest refl;
   timers_fine = kept.timers_fine;
 } where
   row : Thread
   row = record (thread_at s t) { stage = Closed; retry = None }
 
+-- other works
+pub works-kept : (f : Frame) (s : State) (works : List (List ℕ)) → ((alarm : Alarm) → standings alarm works s.armed ≤ 1) → Kept f s → Kept f (record s { works = works })
+works-kept f s works single kept = record {
+  moment_is = kept.moment_is;
+  live = kept.live;
+  ends = kept.ends;
+  count = kept.count;
+  cores = kept.cores;
+  placed = kept.placed;
+  rows = kept.rows;
+  bounded = kept.bounded;
+  due_few = kept.due_few;
+  single = single;
+  owned = kept.owned;
+  fine = kept.fine;
+  nest_runs = kept.nest_runs;
+  timers_fine = kept.timers_fine;
+}
+
 -- moved threads go to the end of the ready list
 pub reordered-kept : (f : Frame) (before s : State) → Kept f s → Kept f (reordered_state before s)
 reordered-kept f before s kept = record {
-  tick_is = kept.tick_is;
+  moment_is = kept.moment_is;
   live = kept.live;
   ends = kept.ends;
   count = kept.count;
   cores = kept.cores;
   placed = λ t. omega (arith, tally-split (λ u. eqb u t) (is_moved before s) s.ready, kept.placed t);
   rows = kept.rows;
+  bounded = kept.bounded;
   due_few = kept.due_few;
   single = kept.single;
   owned = kept.owned;
@@ -512,13 +600,14 @@ nest-elsewhere b running nest core r apart runs n is = ((runs n is).0, other-set
 -- a free core takes a ready thread
 pub run-kept : (f : Frame) (s : State) (core p : ℕ) → core < f.board.cores → running_on s core ≡ None → 1 ≤ tally (λ u. eqb u p) s.ready → Kept f s → Kept f (with_running s core p)
 run-kept f s core p board_core free ready kept = record {
-  tick_is = kept.tick_is;
+  moment_is = kept.moment_is;
   live = kept.live;
   ends = kept.ends;
   count = kept.count;
   cores = length-set_at s.running core (Some p) ∙ kept.cores;
   placed = placed;
   rows = kept.rows;
+  bounded = kept.bounded;
   due_few = kept.due_few;
   single = kept.single;
   owned = kept.owned;
@@ -546,13 +635,14 @@ run-kept f s core p board_core free ready kept = record {
 swap-kept : (f : Frame) (s : State) (core r p : ℕ) (ready : List ℕ) → running_on s core ≡ Some r → is_nest_of core s.nest ≡ false → 1 ≤ tally (λ u. eqb u p) s.ready → ((u : ℕ) → tally (λ v. eqb v u) ready ≡ tally (λ v. eqb v u) s.ready + one_if (eqb r u)) → Kept f s
     → Kept f (with_running (record s { ready = ready }) core p)
 swap-kept f s core r p ready runs free some put kept = record {
-  tick_is = kept.tick_is;
+  moment_is = kept.moment_is;
   live = kept.live;
   ends = kept.ends;
   count = kept.count;
   cores = length-set_at s.running core (Some p) ∙ kept.cores;
   placed = placed;
   rows = kept.rows;
+  bounded = kept.bounded;
   due_few = kept.due_few;
   single = kept.single;
   owned = kept.owned;
