@@ -32,6 +32,7 @@ pub mod BoardLemmas
 pub mod SkipLemmas
 pub mod CostLemmas
 pub mod CallCosts
+pub mod WorkCosts
 pub mod StatementCosts
 pub mod TickCosts
 pub mod CanonLemmas

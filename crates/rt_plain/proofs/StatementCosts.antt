@@ -9,7 +9,7 @@ use Rattle.rt_base.specs.Codes.{code_number, sleep_number}
 use Rattle.rt_plain.specs.declared.line.Line.{Line}
 use Rattle.rt_plain.specs.declared.stmt.Stmt.{Stmt}
 use Rattle.rt_plain.specs.PlainBoard.{PlainBoard}
-use Rattle.rt_plain.specs.State.{State, Awaited, InCall, AtConsole, Retry, Thread, Device, thread_at, thread_numbers, with_thread, is_closed}
+use Rattle.rt_plain.specs.State.{State, Awaited, InCall, AtConsole, AtWorks, Retry, Thread, Device, thread_at, thread_numbers, with_thread, is_closed}
 use Rattle.rt_plain.specs.Effects.{Effect, no_effect, waiting_state}
 use Rattle.rt_plain.specs.Outcome.{ByThread, First, Again, Answer, Answers, Waits, Outcome}
 use Rattle.rt_plain.specs.Calls.{outcome_of, prio_line, prio_lines, mode_lines, reordered_state, settled_effect}
@@ -18,26 +18,28 @@ use Rattle.rt_plain.specs.Rows.{rows, thread_row, sem_row, event_row, mutex_row,
 use Rattle.rt_plain.specs.Tables.{Command, Lists, DumpsPower, TellsVersion, Helps, CommandRow, commands, unknown_pieces, printed_pieces, pieces_for, table, columns, table_line, texts}
 use Rattle.rt_plain.specs.Shell.{seen_of, longer_line, prompt, prompt_effect, turn_effect, reading_effect, line_read_effect, shell_effect, console_bytes, with_received, with_console_bytes, console_name, is_newline}
 use Rattle.rt_plain.specs.DeviceCalls.{find_device}
-use Rattle.rt_plain.specs.Statements.{script_of, statement_at, is_shell, with_next, print_effect, said_text, with_counter, plain_effect, with_answer, call_effect, done_effect, next_statement_effect, repeated_call_effect, script_effect, statement_effect, target}
+use Rattle.rt_plain.specs.Statements.{script_of, statement_at, is_shell, is_soft_thread, thread_effect, with_next, print_effect, said_text, with_counter, plain_effect, with_answer, call_effect, done_effect, next_statement_effect, repeated_call_effect, script_effect, statement_effect, target}
 use Rattle.rt_plain.proofs.CostLemmas.{Few, Costs, stays-then, costs-more, costs-none, costs-from, thread-costs, waiting-costs, close-costs}
+use Rattle.rt_plain.specs.SoftTurn.{soft_effect}
+use Rattle.rt_plain.proofs.WorkCosts.{soft-cost}
 use Rattle.rt_plain.proofs.CallCosts.{HasFew, CostsCall, filter-fewer, device-costs, line-cost, other-costs, outcome-cost}
 use Rattle.std.specs.Str.{bytes_eq}
 use Rattle.rt_plain.specs.Sound.{is_waiting}
 use Rattle.rt_plain.proofs.TallyLemmas.{tally-length}
 use Rattle.rt_plain.specs.Owners.{close_effect}
 
-print-cost : (s : State) (text : List ℕ) → Costs s (print_effect text s) 2
-print-cost s [] = costs-more s (no_effect s) 0 2 (omega arith) (costs-none s)
+print-cost : (s : State) (text : List ℕ) → Costs s (print_effect text s) 1
+print-cost s [] = costs-more s (no_effect s) 0 1 (omega arith) (costs-none s)
 print-cost s (byte ∷ bytes) = line-cost s s (Line.Print (byte ∷ bytes)) (costs-none s)
 
-free-state : (s u : State) → Costs s (no_effect u) 0 → Costs s (no_effect u) 2
-free-state s u costs = costs-more s (no_effect u) 0 2 (omega arith) costs
+free-state : (s u : State) → Costs s (no_effect u) 0 → Costs s (no_effect u) 1
+free-state s u costs = costs-more s (no_effect u) 0 1 (omega arith) costs
 
-if-free : (s : State) (c : Bool) (x y : State) → Costs s (no_effect x) 0 → Costs s (no_effect y) 0 → Costs s (no_effect (if c then x else y)) 2
+if-free : (s : State) (c : Bool) (x y : State) → Costs s (no_effect x) 0 → Costs s (no_effect y) 0 → Costs s (no_effect (if c then x else y)) 1
 if-free s true x y one other = free-state s x one
 if-free s false x y one other = free-state s y other
 
-plain-cost : (script : List Stmt) (s : State) (t : ℕ) (stmt : Stmt) → Costs s (plain_effect script t stmt s) 2
+plain-cost : (script : List Stmt) (s : State) (t : ℕ) (stmt : Stmt) → Costs s (plain_effect script t stmt s) 1
 plain-cost script s t (Stmt.Print text) = print-cost s text
 plain-cost script s t (Stmt.Say what) = print-cost s (said_text what (thread_at s t))
 plain-cost script s t (Stmt.Goto k) = free-state s (with_next s t (target script k)) (thread-costs s t (record (thread_at s t) { next = target script k }) refl)
@@ -48,7 +50,7 @@ plain-cost script s t (Stmt.Next k) =
     let low : Costs s (no_effect lowered) 0 = thread-costs s t (with_counter (thread_at s t) ((thread_at s t).counter - 1)) refl in
     if-free s (eqb ((thread_at s t).counter - 1) 0) lowered (with_next lowered t (target script k)) low
     (costs-from s lowered (no_effect (with_next lowered t (target script k))) 0 0 low (thread-costs lowered t (record (thread_at lowered t) { next = target script k }) refl))
-plain-cost script s t Stmt.Exit = costs-more s (plain_effect script t Stmt.Exit s) 1 2 (omega arith) (close-costs s t)
+plain-cost script s t Stmt.Exit = close-costs s t
 plain-cost script s t (Stmt.Do call) = free-state s s (costs-none s)
 
 answer-cost : (s : State) (t : ℕ) (answer : Answer) → Costs s (no_effect (with_answer t answer s)) 0
@@ -56,7 +58,7 @@ answer-cost s t (Answers code) = thread-costs s t (record (thread_at s t) { code
 answer-cost s t Waits = costs-none s
 
 -- a call with its line
-called-cost : (s : State) (t : ℕ) (line : Option Code → Line) (outcome : Outcome) → CostsCall s outcome → Costs s (call_effect t line outcome) 3
+called-cost : (s : State) (t : ℕ) (line : Option Code → Line) (outcome : Outcome) → CostsCall 2 s outcome → Costs s (call_effect t line outcome) 3
 called-cost s t line outcome costs = record {
   lines = omega (arith, costs.lines, (answer-cost outcome.effect.state t outcome.answer).lines);
   numbers = omega (arith, costs.numbers, (answer-cost outcome.effect.state t outcome.answer).numbers);
@@ -84,6 +86,7 @@ next-cost b s t core has =
 
 repeated-cost : (b : PlainBoard) (s : State) (t core : ℕ) (retry : Retry) (what : Awaited) → HasFew b → Costs s (repeated_call_effect b t core retry what s) 3
 repeated-cost b s t core retry AtConsole has = costs-more s (no_effect s) 0 3 (omega arith) (costs-none s)
+repeated-cost b s t core retry AtWorks has = costs-more s (no_effect s) 0 3 (omega arith) (costs-none s)
 repeated-cost b s t core retry (InCall call) has =
     let free : State = with_thread s t (record (thread_at s t) { retry = None }) in
     costs-from s free (repeated_call_effect b t core retry (InCall call) s) 0 3 (thread-costs s t (record (thread_at s t) { retry = None }) refl)
@@ -94,26 +97,26 @@ script-cost b s t core None has = next-cost b s t core has
 script-cost b s t core (Some retry) has = repeated-cost b s t core retry retry.what has
 
 -- the tables of the shell
-thread-rows : (s : State) → length (rows s Class.Thread) ≤ length s.threads
-thread-rows s = let open_ones : List ℕ = filter (λ t. not (is_closed (thread_at s t).stage)) (thread_numbers s) in
+thread-rows : (b : PlainBoard) (s : State) → length (rows b s Class.Thread) ≤ length s.threads
+thread-rows b s = let open_ones : List ℕ = filter (λ t. not (is_closed (thread_at s t).stage)) (thread_numbers s) in
     omega (arith, length-map (reverse open_ones) (thread_row s), length-reverse open_ones, filter-fewer (λ t. not (is_closed (thread_at s t).stage)) (thread_numbers s), length-range_with_len 0 (length s.threads))
 
-class-rows : (s : State) (class : Class) → Few s → length (rows s class) ≤ 256 + length s.threads + length s.timers + length s.devices
-class-rows s Class.Thread few = omega (arith, thread-rows s)
-class-rows s Class.Sem few = omega (arith, few.sems, length-map s.sems (sem_row s))
-class-rows s Class.Event few = omega (arith, few.events, length-map s.events (event_row s))
-class-rows s Class.Mutex few = omega (arith, few.mutexes, length-map s.mutexes (mutex_row s))
-class-rows s Class.Mailbox few = omega (arith, few.mailboxes, length-map s.mailboxes (mailbox_row s))
-class-rows s Class.MsgQueue few = omega (arith, few.queues, length-map s.queues (queue_row s))
-class-rows s Class.Timer few = omega (arith, length-map s.timers (timer_row s))
-class-rows s Class.Device few = omega (arith, length-map s.devices device_row)
+class-rows : (b : PlainBoard) (s : State) (class : Class) → Few s → length (rows b s class) ≤ 256 + length s.threads + length s.timers + length s.devices
+class-rows b s Class.Thread few = omega (arith, thread-rows b s)
+class-rows b s Class.Sem few = omega (arith, few.sems, length-map s.sems (sem_row s))
+class-rows b s Class.Event few = omega (arith, few.events, length-map s.events (event_row s))
+class-rows b s Class.Mutex few = omega (arith, few.mutexes, length-map s.mutexes (mutex_row s))
+class-rows b s Class.Mailbox few = omega (arith, few.mailboxes, length-map s.mailboxes (mailbox_row s))
+class-rows b s Class.MsgQueue few = omega (arith, few.queues, length-map s.queues (queue_row s))
+class-rows b s Class.Timer few = omega (arith, length-map s.timers (timer_row b s))
+class-rows b s Class.Device few = omega (arith, length-map s.devices device_row)
 
 -- how many lines the shell's longest table and the threads, timers and devices of a state need
 abbrev pub counted : State → ℕ
 counted s = length s.threads + length s.timers + length s.devices
 
 pieces-few : (b : PlainBoard) (s : State) (command : Command) → Few s → length (printed_pieces command (seen_of b s)) ≤ 257 + counted s
-pieces-few b s (Lists class) few = omega (arith, class-rows s class few, length-map (rows s class) (λ row. table_line (columns class) (texts row)))
+pieces-few b s (Lists class) few = omega (arith, class-rows b s class few, length-map (rows b s class) (λ row. table_line (columns class) (texts row)))
 pieces-few b s DumpsPower few = omega arith
 pieces-few b s TellsVersion few = omega arith
 pieces-few b s Helps few = omega arith
@@ -222,9 +225,10 @@ settled-cost b s before e c costs = record {
   same = other-costs e.state (reordered_state before e.state) refl refl refl refl refl refl refl refl refl refl
 
 pub statement-cost : (b : PlainBoard) (s : State) (t core : ℕ) → HasFew b → Few s → Costs s (statement_effect b t core s) (260 + counted s + (length s.threads + 1))
-statement-cost b s t core has few = settled-cost b s s (if is_shell b t then shell_effect b t s else script_effect b t core (thread_at s t).retry s) (260 + counted s)
-    (if-costs s (is_shell b t) (shell_effect b t s) (script_effect b t core (thread_at s t).retry s) (260 + counted s) (shell-cost b s t few)
-    (costs-more s (script_effect b t core (thread_at s t).retry s) 3 (260 + counted s) (omega arith) (script-cost b s t core (thread_at s t).retry has)))
+statement-cost b s t core has few = settled-cost b s s (thread_effect b t core s) (260 + counted s)
+    (if-costs s (is_shell b t) (shell_effect b t s) (if is_soft_thread b t then soft_effect b t s else script_effect b t core (thread_at s t).retry s) (260 + counted s) (shell-cost b s t few)
+    (costs-more s (if is_soft_thread b t then soft_effect b t s else script_effect b t core (thread_at s t).retry s) 3 (260 + counted s) (omega arith)
+    (if-costs s (is_soft_thread b t) (soft_effect b t s) (script_effect b t core (thread_at s t).retry s) 3 (soft-cost b s t has) (script-cost b s t core (thread_at s t).retry has))))
 
 -- a thread's statement, and a thread's end
 pub script-lines : (b : PlainBoard) (s : State) (t core : ℕ) (retry : Option Retry) → HasFew b → length (settled_effect b s (script_effect b t core retry s)).lines ≤ 3 * length s.threads + 4

@@ -9,6 +9,7 @@ use Rattle.rt_plain.specs.Effects.{Effect, each_effect, wake_effect, retry_of, r
 use Rattle.rt_plain.specs.Waiting.{Waiter, stands_before, put_in_order, in_order, head_of, number_in, waiter_of, wait_rows, waiters, first_waiter, takes_mutex}
 use Rattle.rt_plain.specs.Owners.{with_owner, pass_effect, give_back_effect, mutexes_of, close_effect}
 use Rattle.rt_plain.specs.DeviceCalls.{waits_at_console, console_waiter}
+use Rattle.rt_plain.specs.Works.{waits_for_work, work_waiter}
 use Rattle.rt_plain.specs.Sound.{is_waiting}
 use Rattle.rt_plain.proofs.TallyLemmas.{all-weaker, all-map, same-set, other-set}
 use Rattle.rt_plain.proofs.Invariant.{Frame, Kept, stage_at, is_fine_stage, is_fine_retry, fine-at, thread-kept, waiting-open, waiting-inactive, active-kept, withdrawn-kept}
@@ -144,6 +145,13 @@ found-passes q (y ∷ ys) x is = by_test (q y) refl is (found-passes q ys x) whe
 
 pub console-waiter-waits : (s : State) (t : ℕ) → console_waiter s ≡ Some t → is_waiting (thread_at s t).stage ≡ true
 console-waiter-waits s t is = console-waits (thread_at s t).stage (found-passes (λ u. waits_at_console (thread_at s u).stage) (thread_numbers s) t is)
+
+work-waits : (stage : Stage) → waits_for_work stage ≡ true → is_waiting stage ≡ true
+work-waits (Waiting what number) is = refl
+work-waits _ is = absurd cc
+
+pub work-waiter-waits : (s : State) (t : ℕ) → work_waiter s ≡ Some t → is_waiting (thread_at s t).stage ≡ true
+work-waiter-waits s t is = work-waits (thread_at s t).stage (found-passes (λ u. waits_for_work (thread_at s u).stage) (thread_numbers s) t is)
 
 -- what is done with each of those who wait
 pub each-wakes : (f : Frame) {A : Type 0} (key : A → ℕ) (act : A → State → Effect)
