@@ -6,11 +6,13 @@ use Rattle.std.proofs.lemmas.List.FromFn.{length-range_with_len}
 use Rattle.std.proofs.lemmas.List.Elements.{recursion_from_All}
 use Rattle.rt_base.specs.declared.codes.Code.{Code}
 use Rattle.rt_base.specs.declared.codes.WaitOrder.{WaitOrder}
+use Rattle.rt_plain.specs.declared.line.Line.{Line}
+use Rattle.rt_plain.specs.declared.line.Fired.{Fired}
 use Rattle.rt_plain.specs.declared.stmt.Call.{Call}
 use Rattle.rt_plain.specs.declared.stmt.Stmt.{Stmt}
 use Rattle.rt_plain.specs.PlainBoard.{PlainBoard}
-use Rattle.rt_plain.specs.State.{State, Device, Stage, Initial, Active, Waiting, Suspended, Closed, Timer, Sem, EventObj, Alarm, OfThread, OfTimer, ArmedRow, thread_at, thread_numbers, find_thread, is_initial}
-use Rattle.rt_plain.specs.Effects.{Effect, each_effect, retry_wake_effect, effect_for, without_alarm, due_of}
+use Rattle.rt_plain.specs.State.{State, Device, Stage, Initial, Active, Waiting, Suspended, Closed, Timer, Sem, EventObj, Alarm, OfThread, OfTimer, ArmedRow, Arriving, thread_at, thread_numbers, find_thread, is_initial}
+use Rattle.rt_plain.specs.Effects.{Effect, no_effect, line_effect, each_effect, retry_wake_effect, effect_for, without_alarm, due_of}
 use Rattle.rt_plain.specs.Waiting.{Waiter, stands_before, put_in_order, in_order, waiter_of, number_in, wait_rows, waiters, first_waiter, takes_sem, receives_event, receives_mail, receives_message}
 use Rattle.rt_plain.specs.Outcome.{Outcome, By, ByTimer, Attempt, First, refusal, success, silent_success, found_outcome, missing_outcome}
 use Rattle.rt_plain.specs.ThreadCalls.{start_effect, resume_outcome}
@@ -18,17 +20,19 @@ use Rattle.rt_plain.specs.SemCalls.{find_sem, sem_release_outcome, with_sem}
 use Rattle.rt_plain.specs.EventCalls.{Wanting, find_event, flags_wake_effect, satisfied_waiters, wanting_threads, is_satisfied, want_of, flags_left, with_event, event_send_outcome}
 use Rattle.rt_plain.specs.MailboxCalls.{find_mailbox, has_mail_room, mail_put_outcome, with_mailbox}
 use Rattle.rt_plain.specs.QueueCalls.{find_queue, is_too_long, has_message_room, message_put_outcome, mq_urgent_outcome, with_queue}
-use Rattle.rt_plain.specs.TimerCalls.{find_timer, with_timer_armed, with_timer}
+use Rattle.rt_plain.specs.TimerCalls.{find_timer, timer_start_effect, with_timer}
+use Rattle.rt_plain.specs.TimerKinds.{is_soft}
+use Rattle.rt_plain.specs.Works.{has_work, unwork_effect, without_work, with_work, work_waiter}
 use Rattle.rt_plain.specs.PowerCalls.{votes_for, with_votes}
 use Rattle.rt_plain.specs.Calls.{outcome_of}
-use Rattle.rt_plain.specs.declared.board.Arrival.{Arrival}
 use Rattle.rt_plain.specs.DeviceCalls.{find_device, with_device, ring_after, console_waiter, indication_effect, notice_effect, arrival_effect_at, arrival_effect}
-use Rattle.rt_plain.specs.Due.{timer_effect, fired_timer_effect, with_period, alarm_effect, fired_row_effect}
+use Rattle.rt_plain.specs.Due.{timer_effect, timer_action_effect, soft_timer_effect, fired_timer_effect, with_period, alarm_effect, fired_row_effect}
 use Rattle.rt_plain.specs.Sound.{is_timer_call, is_timer_action, IsWaitedFor}
 use Rattle.rt_plain.proofs.TallyLemmas.{all-found}
 use Rattle.rt_plain.proofs.CallCosts.{HasFew, filter-fewer}
 use Rattle.rt_plain.proofs.CostLemmas.{Costs}
-use Rattle.rt_plain.proofs.TickCosts.{period-cost, alarm-cost}
+use Rattle.rt_plain.proofs.WorkCosts.{period-cost}
+use Rattle.rt_plain.proofs.TickCosts.{alarm-cost}
 use Rattle.rt_plain.proofs.Invariant.{IsWaited}
 use Rattle.rt_plain.proofs.StatementCosts.{map-few, settled-lines}
 
@@ -67,9 +71,12 @@ found-few s (Some x) missing act none some = some x
 none-few : (s : State) (code : Code) → FewLines s (refusal s code)
 none-few s code = omega arith
 
+woken-one : (s : State) (o : Option ℕ) → length (effect_for retry_wake_effect o s).lines ≤ 1
+woken-one s None = omega arith
+woken-one s (Some t) = omega arith
+
 for-few : (s u : State) (o : Option ℕ) → length (effect_for retry_wake_effect o u).lines ≤ length s.threads + 1
-for-few s u None = omega arith
-for-few s u (Some t) = omega arith
+for-few s u o = omega (arith, woken-one u o)
 
 resumed-few : (s : State) (t : ℕ) (stage : Stage) → FewLines s (resume_outcome t stage s)
 resumed-few s t Suspended = omega arith
@@ -88,6 +95,11 @@ sent-few s event mask =
     let wanting : List Wanting = wanting_threads s event in
     omega (arith, flags-lines flags (satisfied_waiters flags wanting) (with_event s (record event { flags = flags_left flags wanting })), filter-fewer (λ (w : Wanting). is_satisfied flags w.want) wanting, length-map {B = Wanting} (waiters s event.order (receives_event event.name)) (λ t. record { thread = t; want = want_of (thread_at s t).stage }), waiters-few s event.order (receives_event event.name))
 
+-- a timer that leaves the works shows a line
+unworked-few : (s : State) (name : List ℕ) (c : Bool) → length (if c then line_effect (without_work s name) (Line.Unwork name) else no_effect s).lines ≤ length s.threads + 1
+unworked-few s name true = omega arith
+unworked-few s name false = omega arith
+
 timer-call-few : (b : PlainBoard) (s : State) (call : Call) (by : By) (attempt : Attempt) → is_timer_call call ≡ true → FewLines s (outcome_of b call s by attempt)
 timer-call-few b s (Call.Startup name) by attempt may = found-few s (find_thread s name) (refusal s Code.Inval) (λ t. if is_initial (thread_at s t).stage then success (start_effect t s) else refusal s Code.Error) (none-few s Code.Inval) (λ t. if-few s (is_initial (thread_at s t).stage) (success (start_effect t s)) (refusal s Code.Error) (omega arith) (omega arith))
 timer-call-few b s (Call.Resume name) by attempt may = found-few s (find_thread s name) (refusal s Code.Inval) (λ t. resume_outcome t (thread_at s t).stage s) (none-few s Code.Inval) (λ t. resumed-few s t (thread_at s t).stage)
@@ -98,30 +110,37 @@ timer-call-few b s (Call.MbUrgent name word) by attempt may = found-few s (find_
 timer-call-few b s (Call.MqUrgent name message) by attempt may = found-few s (find_queue s name) (missing_outcome s First) (λ queue. mq_urgent_outcome queue message s) (none-few s Code.Inval)
     (λ queue. if-few s (is_too_long queue message) (refusal s Code.Error) (if has_message_room queue then message_put_outcome queue (message ∷ queue.messages) s else refusal s Code.Full) (omega arith)
     (if-few s (has_message_room queue) (message_put_outcome queue (message ∷ queue.messages) s) (refusal s Code.Full) (for-few s (with_queue s (record queue { messages = message ∷ queue.messages })) (first_waiter s queue.order (receives_message queue.name))) (omega arith)))
-timer-call-few b s (Call.TimerStart name) by attempt may = found-few s (find_timer s name) (refusal s Code.Inval) (λ timer. silent_success (with_timer_armed s timer)) (none-few s Code.Inval) (λ timer. omega arith)
-timer-call-few b s (Call.TimerStop name) by attempt may = found-few s (find_timer s name) (refusal s Code.Inval) (λ timer. if is_some (due_of s (OfTimer name)) then silent_success (without_alarm s (OfTimer name)) else refusal s Code.Error) (none-few s Code.Inval)
-    (λ timer. if-few s (is_some (due_of s (OfTimer name))) (silent_success (without_alarm s (OfTimer name))) (refusal s Code.Error) (omega arith) (omega arith))
+timer-call-few b s (Call.TimerStart name) by attempt may = found-few s (find_timer s name) (refusal s Code.Inval) (λ timer. success (timer_start_effect timer s)) (none-few s Code.Inval) (λ timer. unworked-few s timer.name (has_work s timer.name))
+timer-call-few b s (Call.TimerStop name) by attempt may = found-few s (find_timer s name) (refusal s Code.Inval) (λ timer. if has_work s name then success (unwork_effect name s) else if is_some (due_of s (OfTimer name)) then silent_success (without_alarm s (OfTimer name)) else refusal s Code.Error) (none-few s Code.Inval)
+    (λ timer. if-few s (has_work s name) (success (unwork_effect name s)) (if is_some (due_of s (OfTimer name)) then silent_success (without_alarm s (OfTimer name)) else refusal s Code.Error) (unworked-few s name (has_work s name))
+    (if-few s (is_some (due_of s (OfTimer name))) (silent_success (without_alarm s (OfTimer name))) (refusal s Code.Error) (omega arith) (omega arith)))
 timer-call-few b s (Call.TimerSet name time) by attempt may = found-few s (find_timer s name) (refusal s Code.Inval) (λ timer. silent_success (with_timer s (record timer { time = time }))) (none-few s Code.Inval) (λ timer. omega arith)
 timer-call-few b s (Call.PmRequest mode) by attempt may = if-few s (eqb (votes_for s.votes mode) 255) (refusal s Code.Full) (silent_success (record s { votes = with_votes mode (votes_for s.votes mode + 1) s.votes })) (omega arith) (omega arith)
 timer-call-few b s (Call.PmRelease mode) by attempt may = if-few s (eqb (votes_for s.votes mode) 0) (refusal s Code.Error) (silent_success (record s { votes = with_votes mode (votes_for s.votes mode - 1) s.votes })) (omega arith) (omega arith)
 timer-call-few b s (Call.PmRun mode) by attempt may = omega arith
 timer-call-few b s _ by attempt may = absurd cc
 
--- with its line, a timer that fires shows so many and one more
-fired-few : (b : PlainBoard) (s : State) (o : Option Timer) → ((timer : Timer) → o ≡ Some timer → is_timer_action timer.call ≡ true) → length (fired_timer_effect b o s).lines ≤ length s.threads + 2
-fired-few b s None may = omega arith
-fired-few b s (Some timer) may = by_action timer.call (may timer refl) where
+-- with its line, a timer that acts shows so many and one more
+action-few : (b : PlainBoard) (line : Fired → Line) (s : State) (timer : Timer) → is_timer_action timer.call ≡ true → length (timer_action_effect b line timer s).lines ≤ length s.threads + 2
+action-few b line s timer = by_action timer.call where
   again : State
   again = with_period timer.kind timer s
 
   same : length again.threads ≡ length s.threads
   same = (period-cost s timer.kind timer).stays.threads
 
-  by_action : (action : Option Stmt) → is_timer_action action ≡ true → length (timer_effect b timer.name action again).lines ≤ length s.threads + 2
-  by_action (Some (Stmt.Do call)) may_call = omega (arith, same, timer-call-few b again call (ByTimer timer.name) First may_call)
-  by_action (Some (Stmt.Print text)) may_call = omega arith
-  by_action (Some _) may_call = omega arith
-  by_action None may_call = omega arith
+  by_action : (action : Option Stmt) → is_timer_action action ≡ true → length (timer_effect b line timer.name action again).lines ≤ length s.threads + 2
+  by_action (Some (Stmt.Do call)) may = omega (arith, same, timer-call-few b again call (ByTimer timer.name) First may)
+  by_action (Some (Stmt.Print text)) may = omega arith
+  by_action (Some _) may = omega arith
+  by_action None may = omega arith
+
+fired-few : (b : PlainBoard) (s : State) (o : Option Timer) → ((timer : Timer) → o ≡ Some timer → is_timer_action timer.call ≡ true) → length (fired_timer_effect b o s).lines ≤ length s.threads + 2
+fired-few b s None may = omega arith
+fired-few b s (Some timer) may = by_kind (is_soft timer.kind) where
+  by_kind : (c : Bool) → length (if c then soft_timer_effect timer.name s else timer_action_effect b (Line.Fire timer.name) timer s).lines ≤ length s.threads + 2
+  by_kind true = omega (arith, woken-one (with_work s timer.name) (work_waiter (with_work s timer.name)))
+  by_kind false = action-few b (Line.Fire timer.name) s timer (may timer refl)
 
 alarm-few : (b : PlainBoard) (s : State) (alarm : Alarm) → AllByRecursion (λ (timer : Timer). is_timer_action timer.call ≡ true) s.timers → length (alarm_effect b alarm s).lines ≤ length s.threads + 2
 alarm-few b s (OfThread t) may = omega arith
@@ -135,7 +154,7 @@ pub fire-lines : (b : PlainBoard) (s : State) (row : ArmedRow Alarm) → HasFew 
 fire-lines b s row has waits may =
     let free : State = without_alarm s row.alarm in
     let fired : Effect = alarm_effect b row.alarm free in
-    let costs : Costs free fired 3 = alarm-cost b free row.alarm (row-waits s row.alarm waits) has in
+    let costs : Costs free fired 2 = alarm-cost b free row.alarm (row-waits s row.alarm waits) has in
     omega (arith, settled-lines b s fired, costs.stays.threads, alarm-few b free row.alarm (recursion_from_All (λ (timer : Timer). IsTrue (is_timer_action timer.call)) s.timers may))
 
 -- an arrival shows its line, and one that wakes
@@ -153,10 +172,6 @@ indicated-one s (Some name) = by_found (find_sem s name) where
   by_found None = omega arith
   by_found (Some sem) = released-one s sem (first_waiter s sem.order (takes_sem name))
 
-woken-one : (s : State) (o : Option ℕ) → length (effect_for retry_wake_effect o s).lines ≤ 1
-woken-one s None = omega arith
-woken-one s (Some t) = omega arith
-
 noticed-one : (s : State) (device : Device) → length (notice_effect device s).lines ≤ 1
 noticed-one s device = by_kind device.console where
   by_kind : (c : Bool) → length (if c then effect_for retry_wake_effect (console_waiter s) s else indication_effect device.ind s).lines ≤ 1
@@ -167,5 +182,5 @@ arrived-two : (s : State) (o : Option Device) (text : List ℕ) → length (arri
 arrived-two s None text = omega arith
 arrived-two s (Some device) text = omega (arith, noticed-one (with_device s (record device { rx = ring_after device text })) device)
 
-pub arrival-lines : (arrival : Arrival) (s : State) → length (arrival_effect arrival s).lines ≤ 2
+pub arrival-lines : (arrival : Arriving) (s : State) → length (arrival_effect arrival s).lines ≤ 2
 arrival-lines arrival s = arrived-two s (find_device s arrival.device) arrival.text

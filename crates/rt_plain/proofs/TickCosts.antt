@@ -4,18 +4,13 @@ use Rattle.std.specs.List.{AllByRecursion, range_with_len, list_any, fold}
 use Rattle.std.proofs.lemmas.List.{length-map, length-reverse}
 use Rattle.std.proofs.lemmas.List.FromFn.{length-range_with_len}
 use Rattle.std.proofs.lemmas.List.Folds.{list_any-append}
-use Rattle.rt_plain.specs.declared.board.Arrival.{Arrival}
-use Rattle.rt_plain.specs.declared.board.TimerKind.{TimerKind}
 use Rattle.rt_plain.specs.declared.line.Line.{Line}
-use Rattle.rt_plain.specs.declared.stmt.Stmt.{Stmt}
 use Rattle.rt_plain.specs.PlainBoard.{PlainBoard}
-use Rattle.rt_plain.specs.State.{State, Timer, Device, Alarm, OfThread, OfTimer, ArmedRow, thread_at, Thread}
+use Rattle.rt_plain.specs.State.{State, Timer, Device, Arriving, Alarm, OfThread, OfTimer, ArmedRow, thread_at, Thread}
 use Rattle.rt_plain.specs.Effects.{Effect, no_effect, line_effect, each_effect, is_alarm, without_alarm, retry_wake_effect, effect_for}
-use Rattle.rt_plain.specs.Outcome.{ByTimer, First}
-use Rattle.rt_plain.specs.Calls.{outcome_of}
 use Rattle.rt_plain.specs.TimerCalls.{find_timer}
 use Rattle.rt_plain.specs.DeviceCalls.{find_device, with_device, console_waiter, indication_effect, notice_effect, arrival_effect_at, arrival_effect, is_sending, sent, registered_devices, ring_after}
-use Rattle.rt_plain.specs.Due.{due, timeout_code, with_period, timer_effect, fired_timer_effect, alarm_effect, fired_row_effect, due_rows_effect}
+use Rattle.rt_plain.specs.Due.{due, timeout_code, alarm_effect, fired_row_effect, due_rows_effect}
 use Rattle.rt_plain.specs.Ticks.{thread_after_slice, with_slice_used, next_tick_state, alarms_effect, arrivals_now, deliveries, transmissions, with_until_halt, tick_effect}
 use Rattle.rt_plain.proofs.TallyLemmas.{one_if, tally, tally-filter, all-passing, all-both, tally-length}
 use Rattle.rt_plain.proofs.Invariant.{Frame, Kept, stage_at, is_owned, IsRowKept, IsWaited, IsOwned, waiting-open, is-there}
@@ -23,7 +18,8 @@ use Rattle.rt_plain.proofs.WakeLemmas.{console-waiter-waits}
 use Rattle.rt_plain.proofs.FuelLemmas.{range-among}
 use Rattle.rt_plain.proofs.TickLemmas.{still, firing, with_few, IsDueRow, due-length, due-rows, row-kept, filter-length, next-kept, alarms-kept}
 use Rattle.rt_plain.proofs.CostLemmas.{Stays, Costs, stays-same, stays-then, costs-more, costs-none, costs-then, costs-from, thread-costs, wake-costs, wake-pays, retry_wake-costs, for-costs}
-use Rattle.rt_plain.proofs.CallCosts.{HasFew, CostsCall, device-costs, other-costs, sem_release-costs, armed-cost, disarmed-cost, outcome-cost}
+use Rattle.rt_plain.proofs.CallCosts.{HasFew, device-costs, other-costs, sem_release-costs, disarmed-cost}
+use Rattle.rt_plain.proofs.WorkCosts.{fired-cost}
 use Rattle.rt_plain.proofs.StatementCosts.{settled-cost}
 use Rattle.rt_plain.proofs.TestLemmas.{or-first, or-second, clash}
 use Rattle.rt_base.specs.declared.codes.Halt.{Halt}
@@ -70,7 +66,7 @@ row-owner s (OfTimer name) waiting owned = list_any-append (λ a. is_alarm a (Of
 pub armed-few : (f : Frame) (s : State) → Kept f s → length s.armed ≤ length s.threads + length s.timers
 armed-few f s kept = omega (
   arith,
-  all-owned (λ a (row : ArmedRow Alarm). is_alarm a row.alarm) (owners_of s) s.armed (all-both (IsRowKept f.low s.threads) (IsOwned s.timers) (λ (row : ArmedRow Alarm). list_any (λ a. is_alarm a row.alarm) (owners_of s) ≡ true) s.armed (λ row held owned. row-owner s row.alarm held.1 owned) kept.rows kept.owned) kept.single,
+  all-owned (λ a (row : ArmedRow Alarm). is_alarm a row.alarm) (owners_of s) s.armed (all-both (IsRowKept f.low s.threads) (IsOwned s.timers) (λ (row : ArmedRow Alarm). list_any (λ a. is_alarm a row.alarm) (owners_of s) ≡ true) s.armed (λ row held owned. row-owner s row.alarm held.1 owned) kept.rows kept.owned) (λ a. omega (arith, kept.single a)),
   length-append (map (λ t. OfThread t) (range_with_len 0 (length s.threads))) (map (λ (timer : Timer). OfTimer timer.name) s.timers),
   length-map (range_with_len 0 (length s.threads)) (λ t. OfThread t),
   length-map s.timers (λ (timer : Timer). OfTimer timer.name),
@@ -81,47 +77,15 @@ due-few : (f : Frame) (s : State) → Kept f s → length (due s) ≤ length s.t
 due-few f s kept = omega (arith, due-length f s kept, tally-length (λ (row : ArmedRow Alarm). eqb row.due f.now) s.armed, armed-few f s kept)
 
 -- a due row
-pub period-cost : (s : State) (kind : TimerKind) (timer : Timer) → Costs s (no_effect (with_period kind timer s)) 1
-period-cost s TimerKind.OneShot timer = costs-more s (no_effect s) 0 1 (omega arith) (costs-none s)
-period-cost s TimerKind.Periodic timer = armed-cost s timer
-
-some-lines : (s : State) (lines : List Line) → length lines ≤ 3 → Costs s (record { state = s; lines = lines }) 3
-some-lines s lines few = record { lines = omega (arith, few); numbers = omega arith; stays = stays-same s }
-
-action-cost : (b : PlainBoard) (s : State) (name : List ℕ) (action : Option Stmt) → HasFew b → Costs s (timer_effect b name action s) 3
-action-cost b s name None has = some-lines s _ (omega arith)
-action-cost b s name (Some (Stmt.Print text)) has = some-lines s _ (omega arith)
-action-cost b s name (Some (Stmt.Do call)) has = let costs : CostsCall s (outcome_of b call s (ByTimer name) First) = outcome-cost b s call (ByTimer name) First has in record { lines = omega (arith, costs.lines); numbers = omega (arith, costs.numbers); stays = costs.stays }
-action-cost b s name (Some _) has = some-lines s _ (omega arith)
-
-action-numbers : (b : PlainBoard) (s : State) (name : List ℕ) (action : Option Stmt) → HasFew b → (timer_effect b name action s).state.numbers ≤ s.numbers + 2 * length (timer_effect b name action s).lines + 2
-action-numbers b s name None has = omega arith
-action-numbers b s name (Some (Stmt.Print text)) has = omega arith
-action-numbers b s name (Some (Stmt.Do call)) has = omega (arith, (outcome-cost b s call (ByTimer name) First has).numbers)
-action-numbers b s name (Some _) has = omega arith
-
-fired-cost : (b : PlainBoard) (s : State) (o : Option Timer) → HasFew b → Costs s (fired_timer_effect b o s) 3
-fired-cost b s None has = costs-more s (no_effect s) 0 3 (omega arith) (costs-none s)
-fired-cost b s (Some timer) has = record {
-  lines = omega (arith, again.lines, acts.lines);
-  numbers = omega (arith, again.numbers, action-numbers b (with_period timer.kind timer s) timer.name timer.call has);
-  stays = stays-then s (with_period timer.kind timer s) (timer_effect b timer.name timer.call (with_period timer.kind timer s)).state again.stays acts.stays;
-} where
-  again : Costs s (no_effect (with_period timer.kind timer s)) 1
-  again = period-cost s timer.kind timer
-
-  acts : Costs (with_period timer.kind timer s) (timer_effect b timer.name timer.call (with_period timer.kind timer s)) 3
-  acts = action-cost b (with_period timer.kind timer s) timer.name timer.call has
-
-pub alarm-cost : (b : PlainBoard) (s : State) (alarm : Alarm) → IsWaited s.threads alarm → HasFew b → Costs s (alarm_effect b alarm s) 3
+pub alarm-cost : (b : PlainBoard) (s : State) (alarm : Alarm) → IsWaited s.threads alarm → HasFew b → Costs s (alarm_effect b alarm s) 2
 alarm-cost b s (OfThread t) waiting has = record { lines = omega (arith, wake-pays s (timeout_code (thread_at s t).stage) t waiting); numbers = omega arith; stays = (wake-costs s (timeout_code (thread_at s t).stage) t waiting).stays }
 alarm-cost b s (OfTimer name) waiting has = fired-cost b s (find_timer s name) has
 
 row-cost : (b : PlainBoard) (s : State) (row : ArmedRow Alarm) → IsWaited s.threads row.alarm → HasFew b → Costs s (fired_row_effect b row s) (length s.threads + 4)
 row-cost b s row waiting has =
     let free : State = without_alarm s row.alarm in
-    costs-more s (fired_row_effect b row s) (3 + (length s.threads + 1)) (length s.threads + 4) (omega arith)
-    (settled-cost b s s (alarm_effect b row.alarm free) 3 (costs-from s free (alarm_effect b row.alarm free) 0 3 (disarmed-cost s row.alarm) (alarm-cost b free row.alarm waiting has)))
+    costs-more s (fired_row_effect b row s) (2 + (length s.threads + 1)) (length s.threads + 4) (omega arith)
+    (settled-cost b s s (alarm_effect b row.alarm free) 2 (costs-from s free (alarm_effect b row.alarm free) 0 2 (disarmed-cost s row.alarm) (alarm-cost b free row.alarm waiting has)))
 
 due-cost : (f : Frame) (n : ℕ) (s : State) → HasFew f.board → tally (λ (r : ArmedRow Alarm). eqb r.due f.now) s.armed ≤ n → Kept f s → Costs s (due_rows_effect f.board n (due s) s) (n * (length s.threads + 4))
 due-cost f zero s has few kept = costs-more s (no_effect s) 0 (0 * (length s.threads + 4)) (omega arith) (costs-none s)
@@ -137,7 +101,7 @@ due-cost f (suc n) s has few kept = by_rows (due s) (due-rows f s kept) (due-cos
       let told : Costs fired.state (due_rows_effect f.board n (due fired.state) fired.state) (n * (length s.threads + 4)) = subst (λ t. Costs fired.state (due_rows_effect f.board n (due fired.state) fired.state) (n * (t + 4))) one.stays.threads rest in
       costs-more s (due_rows_effect f.board (suc n) (row ∷ rows) s) (length s.threads + 4 + n * (length s.threads + 4)) (suc n * (length s.threads + 4)) (omega (arith, suc-mul n (length s.threads + 4))) (costs-then s fired (due_rows_effect f.board n (due fired.state) fired.state) (length s.threads + 4) (n * (length s.threads + 4)) one told)
 
--- the tick rises and slices fall
+-- the moment rises and slices fall
 slice-same : (row : Thread) → (thread_after_slice row).stage ≡ row.stage
 slice-same row = by_test (eqb (row.left - 1) 0) where
   by_test : (c : Bool) → (if c then record row { left = row.slice; marked = true } else record row { left = row.left - 1 }).stage ≡ row.stage
@@ -153,7 +117,7 @@ folded-cost [] s = costs-none s
 folded-cost (x ∷ xs) s = costs-from s (with_slice_used s x) (no_effect (fold with_slice_used (with_slice_used s x) xs)) 0 0 (used-cost s x) (folded-cost xs (with_slice_used s x))
 
 risen-cost : (s : State) → Costs s (no_effect (next_tick_state s)) 0
-risen-cost s = let later : State = record s { tick = s.tick + 1 } in costs-from s later (no_effect (next_tick_state s)) 0 0 (other-costs s later refl refl refl refl refl refl refl refl refl refl) (folded-cost s.running later)
+risen-cost s = let later : State = record s { moment = s.moment + 1 } in costs-from s later (no_effect (next_tick_state s)) 0 0 (other-costs s later refl refl refl refl refl refl refl refl refl refl) (folded-cost s.running later)
 
 alarms-cost : (b : PlainBoard) (now : ℕ) (s : State) → HasFew b → Kept (still b now) s → Costs s (alarms_effect b (next_tick_state s)) ((length s.threads + length s.timers) * (length s.threads + 4))
 alarms-cost b now s has kept = costs-more s (alarms_effect b later) (0 + length (due later) * (length later.threads + 4)) ((length s.threads + length s.timers) * (length s.threads + 4)) enough (costs-from s later (alarms_effect b later) 0 (length (due later) * (length later.threads + 4)) risen rows_cost) where
@@ -204,21 +168,21 @@ arrived-cost s (Some device) text =
     let two : Costs held (notice_effect device held) 0 = noticed-cost held device in
     record { lines = omega (arith, one.lines, two.lines); numbers = omega (arith, one.numbers, two.numbers); stays = stays-then s held (notice_effect device held).state one.stays two.stays }
 
--- how many arrivals come at a tick
+-- how much comes at a moment
 abbrev pub come_at : ℕ → State → ℕ
-come_at tick s = tally (λ (a : Arrival). eqb a.tick tick) s.arrivals
+come_at moment s = tally (λ (a : Arriving). eqb a.moment moment) s.arrivals
 
-delivered-cost : (s : State) → Costs s (deliveries s) (come_at s.tick s)
+delivered-cost : (s : State) → Costs s (deliveries s) (come_at s.moment s)
 delivered-cost s = record {
-  lines = omega (arith, each.lines, filter-length (λ (a : Arrival). eqb a.tick s.tick) s.arrivals);
-  numbers = omega (arith, each.numbers, filter-length (λ (a : Arrival). eqb a.tick s.tick) s.arrivals);
+  lines = omega (arith, each.lines, filter-length (λ (a : Arriving). eqb a.moment s.moment) s.arrivals);
+  numbers = omega (arith, each.numbers, filter-length (λ (a : Arriving). eqb a.moment s.moment) s.arrivals);
   stays = stays-then s rest (deliveries s).state left each.stays;
 } where
   rest : State
-  rest = record s { arrivals = filter (λ (a : Arrival). not (eqb a.tick s.tick)) s.arrivals }
+  rest = record s { arrivals = filter (λ (a : Arriving). not (eqb a.moment s.moment)) s.arrivals }
 
   left : Stays s rest
-  left = record { threads = refl; arrivals = λ tick. tally-filter (λ (a : Arrival). eqb a.tick tick) (λ (a : Arrival). not (eqb a.tick s.tick)) s.arrivals; devices = refl; timers = refl; few = λ few. record { sems = few.sems; events = few.events; mutexes = few.mutexes; mailboxes = few.mailboxes; queues = few.queues } }
+  left = record { threads = refl; arrivals = λ moment. tally-filter (λ (a : Arriving). eqb a.moment moment) (λ (a : Arriving). not (eqb a.moment s.moment)) s.arrivals; devices = refl; timers = refl; few = λ few. record { sems = few.sems; events = few.events; mutexes = few.mutexes; mailboxes = few.mailboxes; queues = few.queues } }
 
   each : Costs rest (deliveries s) (length (arrivals_now s))
   each = each-line arrival_effect (λ arrival u. arrived-cost u (find_device u arrival.device) arrival.text) (arrivals_now s) rest
@@ -236,14 +200,14 @@ transmitted-cost : (s : State) → Costs s (transmissions s) (length s.devices)
 transmitted-cost s = costs-more s (transmissions s) (length (registered_devices s)) (length s.devices) (omega (arith, length-reverse s.devices)) (each-line sent (λ device u. sent-cost u device) (registered_devices s) s)
 
 until-cost : (b : PlainBoard) (s : State) → Costs s (no_effect (with_until_halt b s)) 0
-until-cost b s = by_test (eqb s.tick b.until) where
+until-cost b s = by_test (eqb s.moment b.until) where
   by_test : (c : Bool) → Costs s (no_effect (if c then record s { halt = Some Halt.Until } else s)) 0
   by_test true = other-costs s (record s { halt = Some Halt.Until }) refl refl refl refl refl refl refl refl refl refl
   by_test false = costs-none s
 
 -- a tick: the rows that are due, what arrives and what the devices send
 abbrev pub tick_cost : State → ℕ
-tick_cost s = (length s.threads + length s.timers) * (length s.threads + 4) + come_at (s.tick + 1) s + length s.devices
+tick_cost s = (length s.threads + length s.timers) * (length s.threads + 4) + come_at (s.moment + 1) s + length s.devices
 
 pub tick-cost : (b : PlainBoard) (now : ℕ) (s : State) → HasFew b → Kept (still b now) s → Costs s (tick_effect b s) (tick_cost s)
 tick-cost b now s has kept = record {
@@ -279,7 +243,7 @@ tick-cost b now s has kept = record {
   fired : Costs s e ((length s.threads + length s.timers) * (length s.threads + 4))
   fired = alarms-cost b now s has kept
 
-  came : Costs e.state (deliveries e.state) (come_at e.state.tick e.state)
+  came : Costs e.state (deliveries e.state) (come_at e.state.moment e.state)
   came = delivered-cost e.state
 
   gone : Costs (deliveries e.state).state (transmissions (deliveries e.state).state) (length (deliveries e.state).state.devices)
@@ -288,11 +252,11 @@ tick-cost b now s has kept = record {
   last : Costs (transmissions (deliveries e.state).state).state (no_effect (with_until_halt b (transmissions (deliveries e.state).state).state)) 0
   last = until-cost b (transmissions (deliveries e.state).state).state
 
-  tick_is : e.state.tick ≡ s.tick + 1
-  tick_is = (alarms-kept b now s kept).tick_is ∙ ap (λ n. n + 1) (sym kept.tick_is)
+  moment_is : e.state.moment ≡ s.moment + 1
+  moment_is = (alarms-kept b now s kept).moment_is ∙ ap (λ n. n + 1) (sym kept.moment_is)
 
-  come : come_at e.state.tick e.state ≤ come_at (s.tick + 1) s
-  come = subst (λ t. come_at t e.state ≤ come_at (s.tick + 1) s) (sym tick_is) (fired.stays.arrivals (s.tick + 1))
+  come : come_at e.state.moment e.state ≤ come_at (s.moment + 1) s
+  come = subst (λ t. come_at t e.state ≤ come_at (s.moment + 1) s) (sym moment_is) (fired.stays.arrivals (s.moment + 1))
 
   gone_few : length (deliveries e.state).state.devices ≡ length s.devices
   gone_few = came.stays.devices ∙ fired.stays.devices
