@@ -9,20 +9,21 @@ use Rattle.rt_plain.specs.declared.board.TimerDef.{TimerDef}
 use Rattle.rt_plain.specs.declared.entry.Entry.{Entry}
 use Rattle.rt_plain.specs.declared.line.Line.{Line}
 use Rattle.rt_plain.specs.PlainBoard.{PlainBoard}
-use Rattle.rt_plain.specs.State.{State, Thread, Device, thread_at, running_on, is_nest_of_other, OfTimer}
+use Rattle.rt_plain.specs.State.{State, Thread, Device, Arriving, thread_at, running_on, is_nest_of_other, OfTimer}
 use Rattle.rt_plain.specs.Pick.{pick}
 use Rattle.rt_plain.specs.Effects.{Effect, no_effect, with_alarm, name_of, with_ready_first, with_ready_last}
 use Rattle.rt_plain.specs.DeviceCalls.{is_busy, registered_devices}
 use Rattle.rt_plain.specs.PowerCalls.{sleep_mode}
 use Rattle.rt_plain.specs.Statements.{statement_effect}
 use Rattle.rt_plain.specs.Ticks.{tick_effect}
-use Rattle.rt_plain.specs.Sleeps.{Did, Made, Same, Halted, ticks, first_from, must_end, moments_of, sleep_length, powered_devices, sleep_effect, sleep_did, may_sleep, awake_rest_did, halting_rest_did, is_quiet, final_halt, rest_did}
+use Rattle.rt_plain.specs.Sleeps.{Did, Made, Same, Halted, ticks, sleep_length, stops_ticks, powered_devices, sleep_effect, sleep_did, may_sleep, awake_rest_did, halting_rest_did, is_quiet, final_halt, rest_did}
 use Rattle.rt_plain.specs.Steps.{happens, with_running, without_mark, preempted_state, with_running, is_preemptible, takes_from, preempt_did, did_of_effect, statement_did, busy_core_did, is_all_idle, free_core_did, core_did, unhalted_step_did, unhalted_tick_did}
-use Rattle.rt_plain.specs.Opening.{new_sem, new_event, new_mutex, new_mailbox, new_queue, new_timer, new_device, new_console, unstarted_state, with_auto_timer, open_state}
+use Rattle.rt_plain.specs.Opening.{new_sem, new_event, new_mutex, new_mailbox, new_queue, new_timer, new_device, new_console, new_arriving, arrival_moment, unstarted_state, with_auto_timer, open_state}
+use Rattle.rt_plain.specs.Shown.{shown}
 use Rattle.rt_plain.specs.Runs.{IsMade, IsRun, thread_count, room}
 use Rattle.rt_plain.specs.Sound.{is_waiting, IsProper, IsSized}
 use Rattle.rt_plain.proofs.RunLemmas.{IsRun-keeps}
-use Rattle.rt_plain.proofs.TallyLemmas.{tally-length, tally, all-passing, all-filter, one_if, all-weaker}
+use Rattle.rt_plain.proofs.TallyLemmas.{tally-length, tally, tally-map, all-passing, all-filter, one_if, all-weaker}
 use Rattle.rt_plain.proofs.Invariant.{Kept}
 use Rattle.rt_plain.proofs.TickLemmas.{still}
 use Rattle.rt_plain.proofs.StepLemmas.{KeptAt, KeptDid, event-kept, ticks-kept}
@@ -33,7 +34,7 @@ use Rattle.rt_plain.proofs.CallCosts.{HasFew, filter-fewer, other-costs}
 use Rattle.rt_plain.proofs.StatementCosts.{counted, statement-cost}
 use Rattle.rt_plain.proofs.TickCosts.{come_at, tick_cost, tick-cost, all-owned}
 use Rattle.rt_plain.proofs.TestLemmas.{and-right}
-use Rattle.std.proofs.Common.{AllPairs, Contains, get_or, bytes_eq, cond, eqb-true}
+use Rattle.std.proofs.Common.{AllPairs, Contains, get_or, bytes_eq, cond, eqb-true, leb-true}
 use Rattle.std.proofs.lemmas.Slice.Eq.{bytes_eq-Decides}
 use Rattle.std.proofs.lemmas.List.Folds.{list_any_at}
 use Rattle.std.proofs.lemmas.List.Elements.{recursion_from_All}
@@ -46,7 +47,7 @@ record IsSizedState (b : PlainBoard) (s : State) : Type 0 where
   threads : length s.threads ≡ thread_count b
   timers : length s.timers ≡ length b.timers
   devices : length s.devices ≡ 1 + length b.devices
-  arrivals : (tick : ℕ) → come_at tick s ≤ 1 + length b.devices
+  arrivals : (moment : ℕ) → come_at moment s ≤ 1 + length b.devices
   few : Few s
 
 sized-on : (b : PlainBoard) (s u : State) → IsSizedState b s → Stays s u → IsSizedState b u
@@ -54,7 +55,7 @@ sized-on b s u sized stays = record {
   threads = stays.threads ∙ sized.threads;
   timers = stays.timers ∙ sized.timers;
   devices = stays.devices ∙ sized.devices;
-  arrivals = λ tick. omega (arith, stays.arrivals tick, sized.arrivals tick);
+  arrivals = λ moment. omega (arith, stays.arrivals moment, sized.arrivals moment);
   few = stays.few sized.few;
 }
 
@@ -90,7 +91,7 @@ four-fit rows threads = omega (arith, mul-le-mul_left {m = 4} {n = 2 * threads +
 
 -- a number of lines that fits the room: that of a tick and a sleep, and that of a statement
 tick-fits : (b : PlainBoard) (s : State) (c : ℕ) → IsSizedState b s → c ≤ 2 + 2 * length s.devices + tick_cost s → 2 * length s.threads + c ≤ room b
-tick-fits b s c sized le = omega (arith, le, rows, sized.threads, sized.timers, sized.devices, sized.arrivals (s.tick + 1), rows-fit (thread_count b + length b.timers) (thread_count b), room-product (thread_count b + length b.timers) (thread_count b)) where
+tick-fits b s c sized le = omega (arith, le, rows, sized.threads, sized.timers, sized.devices, sized.arrivals (s.moment + 1), rows-fit (thread_count b + length b.timers) (thread_count b), room-product (thread_count b + length b.timers) (thread_count b)) where
   rows : (length s.threads + length s.timers) * (length s.threads + 4) ≡ (thread_count b + length b.timers) * (thread_count b + 4)
   rows = ap (λ t. (t + length s.timers) * (t + 4)) sized.threads ∙ ap (λ m. (thread_count b + m) * (thread_count b + 4)) sized.timers
 
@@ -104,10 +105,10 @@ sleep_of b d s rest = let e = sleep_effect b s rest (tick_effect b rest.state) i
 powered-few : (s : State) → length (powered_devices s) ≤ length s.devices
 powered-few s = omega (arith, filter-fewer (λ (d : Device). d.pm) (registered_devices s), length-reverse s.devices)
 
-slept-fits : (b : PlainBoard) (d n now : ℕ) (s : State) → IsSized b → IsSizedState b s → Kept (still b now) (record s { tick = s.tick + n }) → FitsDid b s (sleep_of b d s (no_effect (record s { tick = s.tick + n })))
+slept-fits : (b : PlainBoard) (d n now : ℕ) (s : State) → IsSized b → IsSizedState b s → Kept (still b now) (record s { moment = s.moment + n }) → FitsDid b s (sleep_of b d s (no_effect (record s { moment = s.moment + n })))
 slept-fits b d n now s board sized kept = (omega (arith, size, last.lines, waits-few s, tick-fits b later (2 + 2 * length s.devices + tick_cost later) later_sized (omega arith)), stays-then s later (tick_effect b later).state moved.stays last.stays, omega (arith, last.lines, last.numbers, waits-few later, tick-fits b later (2 + 2 * length s.devices + tick_cost later) later_sized (omega arith))) where
   later : State
-  later = record s { tick = s.tick + n }
+  later = record s { moment = s.moment + n }
 
   moved : Costs s (no_effect later) 0
   moved = other-costs s later refl refl refl refl refl refl refl refl refl refl
@@ -125,31 +126,25 @@ slept-fits b d n now s board sized kept = (omega (arith, size, last.lines, waits
   resumes = map (λ (x : Device). Line.Resume x.name) (reverse (powered_devices s))
 
   size : length (Line.Sleep (sleep_mode b s) d ∷ (sleep_effect b s (no_effect later) (tick_effect b later)).lines) ≤ 2 + 2 * length s.devices + length (tick_effect b later).lines
-  size = omega (arith, powered-few s, length-append ((suspends ++ []) ++ resumes) (Line.Tick (tick_effect b later).state.tick ∷ (tick_effect b later).lines), length-append (suspends ++ []) resumes, length-append suspends [], length-map (powered_devices s) (λ (x : Device). Line.Suspend x.name), length-map (reverse (powered_devices s)) (λ (x : Device). Line.Resume x.name), length-reverse (powered_devices s))
+  size = omega (arith, powered-few s, length-append ((suspends ++ []) ++ resumes) (Line.Tick (shown b (tick_effect b later).state.moment) ∷ (tick_effect b later).lines), length-append (suspends ++ []) resumes, length-append suspends [], length-map (powered_devices s) (λ (x : Device). Line.Suspend x.name), length-map (reverse (powered_devices s)) (λ (x : Device). Line.Resume x.name), length-reverse (powered_devices s))
 
-first-after : (test : ℕ → Bool) (bound n : ℕ) (passes : Bool) → n ≤ first_from test bound n passes
-first-after test zero n passes = omega arith
-first-after test (suc bound) n true = omega arith
-first-after test (suc bound) n false = omega (arith, first-after test bound (n + 1) (test (n + 1)))
-
-sleep-fits : (b : PlainBoard) (now : ℕ) (s : State) → IsSized b → IsSizedState b s → Kept (still b now) s → is_all_idle s ≡ true → is_busy s ≡ false → FitsDid b s (sleep_did b (sleep_length b s) s)
-sleep-fits b now s board sized kept idle silent = subst (λ (e : Effect). FitsDid b s (sleep_of b (sleep_length b s) s e)) (sym skipped) (slept-fits b (sleep_length b s) (sleep_length b s - 1) rest.0 s board sized later) where
-  long : 1 ≤ sleep_length b s
-  long = first-after (must_end (moments_of b s) b.lpmax s.tick) b.lpmax 1 (must_end (moments_of b s) b.lpmax s.tick 1)
-
-  skipped : ticks b (sleep_length b s - 1) s ≡ no_effect (record s { tick = s.tick + (sleep_length b s - 1) })
+sleep-fits : (b : PlainBoard) (now : ℕ) (s : State) → IsSized b → IsSizedState b s → Kept (still b now) s → is_all_idle s ≡ true → is_busy s ≡ false → 1 ≤ sleep_length b s → FitsDid b s (sleep_did b (sleep_length b s) s)
+sleep-fits b now s board sized kept idle silent long = subst (λ (e : Effect). FitsDid b s (sleep_of b (sleep_length b s) s e)) (sym skipped) (slept-fits b (sleep_length b s) (sleep_length b s - 1) rest.0 s board sized later) where
+  skipped : ticks b (sleep_length b s - 1) s ≡ no_effect (record s { moment = s.moment + (sleep_length b s - 1) })
   skipped = skipped-ticks b (sleep_length b s - 1) s idle silent (omega (arith, long))
 
   rest : KeptAt b (ticks b (sleep_length b s - 1) s).state
   rest = ticks-kept b (sleep_length b s - 1) now s kept
 
-  later : Kept (still b rest.0) (record s { tick = s.tick + (sleep_length b s - 1) })
+  later : Kept (still b rest.0) (record s { moment = s.moment + (sleep_length b s - 1) })
   later = subst (λ (e : Effect). Kept (still b rest.0) e.state) skipped rest.1
 
-module _ (b : PlainBoard) (now : ℕ) (s : State) (board : IsSized b) (sized : IsSizedState b s) (kept : Kept (still b now) s) where
+module _ (b : PlainBoard) (now : ℕ) (s : State) (some : 1 ≤ b.thresh) (board : IsSized b) (sized : IsSizedState b s) (kept : Kept (still b now) s) where
   halting-fits : (o : Option Halt) → is_all_idle s ≡ true → is_busy s ≡ false → FitsDid b s (halting_rest_did b o s)
   halting-fits (Some halt) idle silent = tt
-  halting-fits None idle silent = if-fits b s (is_quiet s) (Halted Halt.Quiet) (awake_rest_did b s) (λ is. tt) (λ is. if-fits b s (may_sleep b s) (sleep_did b (sleep_length b s) s) Same (λ may. sleep-fits b now s board sized kept idle silent) (λ may. tt))
+  halting-fits None idle silent = if-fits b s (is_quiet s) (Halted Halt.Quiet) (awake_rest_did b s) (λ is. tt) (λ is. if-fits b s (may_sleep b s) (sleep_did b (sleep_length b s) s) Same (λ may. sleep-fits b now s board sized kept idle silent (long may)) (λ may. tt)) where
+    long : may_sleep b s ≡ true → 1 ≤ sleep_length b s
+    long may = omega (arith, some, leb-true b.thresh (sleep_length b s) (and-right (stops_ticks (sleep_mode b s)) _ (and-right b.tickless _ may)))
 
   rest-fits : is_all_idle s ≡ true → FitsDid b s (rest_did b s)
   rest-fits idle = if-fits b s (is_busy s) Same (halting_rest_did b (final_halt (sleep_mode b s)) s) (λ is. tt) (λ silent. halting-fits (final_halt (sleep_mode b s)) idle silent)
@@ -212,29 +207,29 @@ module _ (b : PlainBoard) (now : ℕ) (s : State) (board : IsSized b) (sized : I
   event-fits (Event.Step core) = step-fits core s.halt
   event-fits Event.Tick = ticked-fits s.halt
 
--- arrivals at devices that are there, at each once at a tick
+-- arrivals at devices that are there, at each once at a moment
 tally-none : {X : Type 0} (p : X → Bool) (xs : List X) → AllByRecursion (λ x. p x ≡ false) xs → tally p xs ≡ 0
 tally-none p [] all = refl
 tally-none p (x ∷ xs) all = rw all.0 (omega (arith, tally-none p xs all.1))
 
-named-once : (tick : ℕ) (name : List ℕ) (arrivals : List Arrival) → AllPairs (λ (one other : Arrival). one.tick ≡ other.tick → one.device ≢ other.device) arrivals → tally (λ (a : Arrival). bytes_eq name a.device) (filter (λ (a : Arrival). eqb a.tick tick) arrivals) ≤ 1
-named-once tick name [] pairs = omega arith
-named-once tick name (x ∷ xs) pairs = by_tick (eqb x.tick tick) refl (named-once tick name xs (λ i j d less inside. pairs (suc i) (suc j) d (omega (arith, less)) (omega (arith, inside)))) where
+named-once : (b : PlainBoard) (moment : ℕ) (name : List ℕ) (arrivals : List Arrival) → AllPairs (λ (one other : Arrival). arrival_moment b one ≡ arrival_moment b other → one.device ≢ other.device) arrivals → tally (λ (a : Arrival). bytes_eq name a.device) (filter (λ (a : Arrival). eqb (arrival_moment b a) moment) arrivals) ≤ 1
+named-once b moment name [] pairs = omega arith
+named-once b moment name (x ∷ xs) pairs = by_moment (eqb (arrival_moment b x) moment) refl (named-once b moment name xs (λ i j d less inside. pairs (suc i) (suc j) d (omega (arith, less)) (omega (arith, inside)))) where
   here : List Arrival
-  here = filter (λ (a : Arrival). eqb a.tick tick) xs
+  here = filter (λ (a : Arrival). eqb (arrival_moment b a) moment) xs
 
-  apart : AllByRecursion (λ (other : Arrival). x.tick ≡ other.tick → x.device ≢ other.device) xs
-  apart = recursion_from_All (λ (other : Arrival). x.tick ≡ other.tick → x.device ≢ other.device) xs (λ k d inside. pairs 0 (suc k) d (omega arith) (omega (arith, inside)))
+  apart : AllByRecursion (λ (other : Arrival). arrival_moment b x ≡ arrival_moment b other → x.device ≢ other.device) xs
+  apart = recursion_from_All (λ (other : Arrival). arrival_moment b x ≡ arrival_moment b other → x.device ≢ other.device) xs (λ k d inside. pairs 0 (suc k) d (omega arith) (omega (arith, inside)))
 
-  others : eqb x.tick tick ≡ true → bytes_eq name x.device ≡ true → AllByRecursion (λ (a : Arrival). bytes_eq name a.device ≡ false) here
-  others now named = all-passing (λ (other : Arrival). x.tick ≡ other.tick → x.device ≢ other.device) (λ (a : Arrival). bytes_eq name a.device ≡ false) (λ (a : Arrival). eqb a.tick tick) xs (λ a comes off. other_name a comes off (bytes_eq name a.device) refl) apart where
-    other_name : (a : Arrival) → eqb a.tick tick ≡ true → (x.tick ≡ a.tick → x.device ≢ a.device) → (c : Bool) → bytes_eq name a.device ≡ c → bytes_eq name a.device ≡ false
+  others : eqb (arrival_moment b x) moment ≡ true → bytes_eq name x.device ≡ true → AllByRecursion (λ (a : Arrival). bytes_eq name a.device ≡ false) here
+  others now named = all-passing (λ (other : Arrival). arrival_moment b x ≡ arrival_moment b other → x.device ≢ other.device) (λ (a : Arrival). bytes_eq name a.device ≡ false) (λ (a : Arrival). eqb (arrival_moment b a) moment) xs (λ a comes off. other_name a comes off (bytes_eq name a.device) refl) apart where
+    other_name : (a : Arrival) → eqb (arrival_moment b a) moment ≡ true → (arrival_moment b x ≡ arrival_moment b a → x.device ≢ a.device) → (c : Bool) → bytes_eq name a.device ≡ c → bytes_eq name a.device ≡ false
     other_name a comes off false is = is
-    other_name a comes off true is = absurd (off (eqb-true x.tick tick now ∙ sym (eqb-true a.tick tick comes)) (sym ((bytes_eq-Decides name x.device).0 named) ∙ (bytes_eq-Decides name a.device).0 is))
+    other_name a comes off true is = absurd (off (eqb-true (arrival_moment b x) moment now ∙ sym (eqb-true (arrival_moment b a) moment comes)) (sym ((bytes_eq-Decides name x.device).0 named) ∙ (bytes_eq-Decides name a.device).0 is))
 
-  by_tick : (c : Bool) → eqb x.tick tick ≡ c → tally (λ (a : Arrival). bytes_eq name a.device) here ≤ 1 → tally (λ (a : Arrival). bytes_eq name a.device) (cond c (x ∷ here) here) ≤ 1
-  by_tick false later few = few
-  by_tick true now few = by_name (bytes_eq name x.device) refl where
+  by_moment : (c : Bool) → eqb (arrival_moment b x) moment ≡ c → tally (λ (a : Arrival). bytes_eq name a.device) here ≤ 1 → tally (λ (a : Arrival). bytes_eq name a.device) (cond c (x ∷ here) here) ≤ 1
+  by_moment false later few = few
+  by_moment true now few = by_name (bytes_eq name x.device) refl where
     by_name : (c : Bool) → bytes_eq name x.device ≡ c → one_if (bytes_eq name x.device) + tally (λ (a : Arrival). bytes_eq name a.device) here ≤ 1
     by_name false is = rw is (omega (arith, few))
     by_name true is = rw is (omega (arith, tally-none (λ (a : Arrival). bytes_eq name a.device) here (others now is)))
@@ -242,15 +237,19 @@ named-once tick name (x ∷ xs) pairs = by_tick (eqb x.tick tick) refl (named-on
 contained-any : (names : List (List ℕ)) (name : List ℕ) → Contains names name → list_any (λ n. bytes_eq n name) names ≡ true
 contained-any names name contains = list_any_at (λ n. bytes_eq n name) names contains.0 name contains.1 ((bytes_eq-Decides (get_or names contains.0 name) name).1 contains.2)
 
-arrivals-few : (b : PlainBoard) (tick : ℕ) → IsSized b → tally (λ (a : Arrival). eqb a.tick tick) b.arrivals ≤ 1 + length b.devices
-arrivals-few b tick sized = omega (
+arrivals-few : (b : PlainBoard) (moment : ℕ) → IsSized b → tally (λ (a : Arriving). eqb a.moment moment) (map (new_arriving b) b.arrivals) ≤ 1 + length b.devices
+arrivals-few b moment sized = omega (
   arith,
-  filter-length (λ (a : Arrival). eqb a.tick tick) b.arrivals,
+  tally-map (λ (a : Arriving). eqb a.moment moment) (new_arriving b) b.arrivals,
+  filter-length comes b.arrivals,
   length-map b.devices (λ (d : DeviceDef). d.name),
-  all-owned (λ name (a : Arrival). bytes_eq name a.device) names (filter (λ (a : Arrival). eqb a.tick tick) b.arrivals)
-      (all-filter (λ (a : Arrival). list_any (λ n. bytes_eq n a.device) names ≡ true) (λ (a : Arrival). eqb a.tick tick) b.arrivals (all-weaker (λ (a : Arrival). Contains names a.device) (λ (a : Arrival). list_any (λ n. bytes_eq n a.device) names ≡ true) b.arrivals (λ a is. contained-any names a.device is) (recursion_from_All (λ (a : Arrival). Contains names a.device) b.arrivals sized.known)))
-      (λ name. named-once tick name b.arrivals sized.once),
+  all-owned (λ name (a : Arrival). bytes_eq name a.device) names (filter comes b.arrivals)
+      (all-filter (λ (a : Arrival). list_any (λ n. bytes_eq n a.device) names ≡ true) comes b.arrivals (all-weaker (λ (a : Arrival). Contains names a.device) (λ (a : Arrival). list_any (λ n. bytes_eq n a.device) names ≡ true) b.arrivals (λ a is. contained-any names a.device is) (recursion_from_All (λ (a : Arrival). Contains names a.device) b.arrivals sized.known)))
+      (λ name. named-once b moment name b.arrivals sized.once),
 ) where
+  comes : Arrival → Bool
+  comes a = eqb (arrival_moment b a) moment
+
   names : List (List ℕ)
   names = console_name ∷ map (λ (d : DeviceDef). d.name) b.devices
 
@@ -271,7 +270,7 @@ opened-sized b proper board = record {
   threads = (opened-kept b proper).count;
   timers = timers;
   devices = devices;
-  arrivals = λ tick. arrivals tick;
+  arrivals = arrivals;
   few = few;
 } where
   started : State
@@ -286,8 +285,8 @@ opened-sized b proper board = record {
   devices : length (open_state b).devices ≡ 1 + length b.devices
   devices = omega (arith, stays.devices, length-reverse (new_console ∷ map new_device b.devices), length-map b.devices new_device)
 
-  arrivals : (tick : ℕ) → come_at tick (open_state b) ≤ 1 + length b.devices
-  arrivals tick = omega (arith, stays.arrivals tick, arrivals-few b tick board)
+  arrivals : (moment : ℕ) → come_at moment (open_state b) ≤ 1 + length b.devices
+  arrivals moment = omega (arith, stays.arrivals moment, arrivals-few b moment board)
 
   first : Few (unstarted_state b)
   first = record { sems = omega (arith, new-length new_sem b.sems, board.sems); events = omega (arith, new-length new_event b.events, board.events); mutexes = omega (arith, new-length new_mutex b.mutexes, board.mutexes); mailboxes = omega (arith, new-length new_mailbox b.mailboxes, board.mailboxes); queues = omega (arith, new-length new_queue b.queues, board.queues) }
@@ -305,7 +304,7 @@ KeptSized b s = KeptAt b s × IsSizedState b s
 entry-sized : (b : PlainBoard) (old new : State) (e : Entry) → IsProper b → IsSized b → KeptSized b old → IsMade b old e new → KeptSized b new
 entry-sized b old new e proper board kept made = (
   subst (KeptDid b) made.1 (event-kept b kept.0.0 old proper kept.0.1 e.event made.0),
-  sized-on b old new kept.1 (made-stays b old new e.lines (happens b old e.event) made.1 (event-fits b kept.0.0 old board kept.1 kept.0.1 e.event)).1,
+  sized-on b old new kept.1 (made-stays b old new e.lines (happens b old e.event) made.1 (event-fits b kept.0.0 old proper.thresh board kept.1 kept.0.1 e.event)).1,
 )
 
 reached-sized : (b : PlainBoard) (journal : List Entry) (s : State) → IsProper b → IsSized b → IsRun b (open_state b) journal s → KeptSized b s
@@ -313,13 +312,13 @@ reached-sized b journal s proper board run = IsRun-keeps b (KeptSized b) (λ old
 
 -- an event's lines fit the room
 pub lines-fit : (b : PlainBoard) (journal : List Entry) (s new : State) (event : Event) (lines : List Line) → IsProper b → IsSized b → IsRun b (open_state b) journal s → happens b s event ≡ Made new lines → length lines ≤ room b
-lines-fit b journal s new event lines proper board run is = let kept : KeptSized b s = reached-sized b journal s proper board run in (made-stays b s new lines (happens b s event) is (event-fits b kept.0.0 s board kept.1 kept.0.1 event)).0
+lines-fit b journal s new event lines proper board run is = let kept : KeptSized b s = reached-sized b journal s proper board run in (made-stays b s new lines (happens b s event) is (event-fits b kept.0.0 s proper.thresh board kept.1 kept.0.1 event)).0
 
 -- each entry takes few numbers
 numbers-grow : (b : PlainBoard) (journal : List Entry) (old new : State) → IsProper b → IsSized b → KeptSized b old → IsRun b old journal new → new.numbers ≤ old.numbers + length journal * (4 * room b)
 numbers-grow b [] old new proper board kept run = omega (arith, ap (λ (s : State). s.numbers) run)
 numbers-grow b (e ∷ journal) old new proper board kept run =
-    let made : (length e.lines ≤ room b) × Stays old run.0 × (run.0.numbers ≤ old.numbers + 4 * room b) = made-stays b old run.0 e.lines (happens b old e.event) run.1.1 (event-fits b kept.0.0 old board kept.1 kept.0.1 e.event) in
+    let made : (length e.lines ≤ room b) × Stays old run.0 × (run.0.numbers ≤ old.numbers + 4 * room b) = made-stays b old run.0 e.lines (happens b old e.event) run.1.1 (event-fits b kept.0.0 old proper.thresh board kept.1 kept.0.1 e.event) in
     omega (arith, made.2, suc-mul (length journal) (4 * room b), numbers-grow b journal run.0 new proper board (entry-sized b old run.0 e proper board kept run.1) run.2)
 
 auto-numbers : (s : State) (defs : List TimerDef) → (fold with_auto_timer s defs).numbers ≤ s.numbers + length defs

@@ -29,6 +29,10 @@ tally-append p (x ∷ xs) ys = omega (arith, tally-append p xs ys)
 pub tally-last : {X : Type 0} (p : X → Bool) (xs : List X) (y : X) → tally p (xs ++ y ∷ []) ≡ tally p xs + one_if (p y)
 tally-last p xs y = omega (arith, tally-append p xs (y ∷ []))
 
+pub tally-map : {X Y : Type 0} (p : Y → Bool) (f : X → Y) (xs : List X) → tally p (map f xs) ≡ tally (λ x. p (f x)) xs
+tally-map p f [] = refl
+tally-map p f (x ∷ xs) = ap (λ n. one_if (p (f x)) + n) (tally-map p f xs)
+
 -- a list split by a test and joined again
 pub tally-split : {X : Type 0} (p q : X → Bool) (xs : List X) → tally p (filter (λ x. not (q x)) xs ++ filter q xs) ≡ tally p xs
 tally-split p q [] = refl
