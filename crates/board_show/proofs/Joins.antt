@@ -16,7 +16,7 @@ use Rattle.rt_plain.specs.Texts.{with_newline}
 use Rattle.rt_plain.specs.Fields.{timer_kind_text, either}
 use Rattle.rt_plain.specs.Tails.{event_text, timer_call_words}
 use Rattle.rt_plain.specs.LineTable.{text_of}
-use Rattle.rt_plain.specs.Canon.{thread_lines, line_of_thread, setting_lines, shell_lines, limit_lines, object_lines, board_lines, canonical_text}
+use Rattle.rt_plain.specs.Canon.{thread_lines, line_of_thread, setting_lines, shell_lines, soft_lines, limit_lines, object_lines, board_lines, canonical_text}
 use Rattle.board_show.specs.declared.shown.Shown.{Shown}
 use Rattle.board_show.specs.Writing.{shown, whole_line, whole_lines, line_by_line, timer_call_text, timer_fields, statement_text, order_line}
 
@@ -84,20 +84,22 @@ thread_is text t =
     append_assoc text _ _
     ∙ ap (λ (x : List ℕ). text ++ (whole_line (BoardLine.Thread (line_of_thread t)) ++ x)) (sym (flat_map-map whole_line (λ (s : Stmt). BoardLine.Statement s) t.script))
 
-pub objects_are : (text : List ℕ) (b : PlainBoard) → ((((((((text ++ flat_map (λ d. whole_line (BoardLine.Sem d)) b.sems) ++ flat_map (λ d. whole_line (BoardLine.Event d)) b.events) ++ flat_map (λ d. whole_line (BoardLine.Mutex d)) b.mutexes) ++ flat_map (λ d. whole_line (BoardLine.Mailbox d)) b.mailboxes) ++ flat_map (λ d. whole_line (BoardLine.Queue d)) b.queues) ++ flat_map (λ d. whole_line (BoardLine.Device d)) b.devices) ++ flat_map (λ d. whole_line (BoardLine.Timer d)) b.timers) ++ flat_map (λ t. whole_lines (thread_lines t)) b.threads) ++ flat_map (λ a. whole_line (BoardLine.Arrive a)) b.arrivals ≡ text ++ whole_lines (object_lines b)
+pub objects_are : (text : List ℕ) (b : PlainBoard) → (((((((((text ++ flat_map (λ d. whole_line (BoardLine.Sem d)) b.sems) ++ flat_map (λ d. whole_line (BoardLine.Event d)) b.events) ++ flat_map (λ d. whole_line (BoardLine.Mutex d)) b.mutexes) ++ flat_map (λ d. whole_line (BoardLine.Mailbox d)) b.mailboxes) ++ flat_map (λ d. whole_line (BoardLine.Queue d)) b.queues) ++ flat_map (λ d. whole_line (BoardLine.Pool d)) b.pools) ++ flat_map (λ d. whole_line (BoardLine.Device d)) b.devices) ++ flat_map (λ d. whole_line (BoardLine.Timer d)) b.timers) ++ flat_map (λ t. whole_lines (thread_lines t)) b.threads) ++ flat_map (λ a. whole_line (BoardLine.Arrive a)) b.arrivals ≡ text ++ whole_lines (object_lines b)
 objects_are text b =
     let s1 = text ++ flat_map (λ d. whole_line (BoardLine.Sem d)) b.sems in
     let s2 = s1 ++ flat_map (λ d. whole_line (BoardLine.Event d)) b.events in
     let s3 = s2 ++ flat_map (λ d. whole_line (BoardLine.Mutex d)) b.mutexes in
     let s4 = s3 ++ flat_map (λ d. whole_line (BoardLine.Mailbox d)) b.mailboxes in
     let s5 = s4 ++ flat_map (λ d. whole_line (BoardLine.Queue d)) b.queues in
-    let s6 = s5 ++ flat_map (λ d. whole_line (BoardLine.Device d)) b.devices in
-    let s7 = s6 ++ flat_map (λ d. whole_line (BoardLine.Timer d)) b.timers in
-    let s8 = s7 ++ flat_map (λ t. whole_lines (thread_lines t)) b.threads in
-    ap (λ (t : List ℕ). s8 ++ t) (sym (flat_map-map whole_line (λ a. BoardLine.Arrive a) b.arrivals))
-    ∙ more-threads s7 b.threads _
-    ∙ more (λ d. BoardLine.Timer d) s6 b.timers _
-    ∙ more (λ d. BoardLine.Device d) s5 b.devices _
+    let s6 = s5 ++ flat_map (λ d. whole_line (BoardLine.Pool d)) b.pools in
+    let s7 = s6 ++ flat_map (λ d. whole_line (BoardLine.Device d)) b.devices in
+    let s8 = s7 ++ flat_map (λ d. whole_line (BoardLine.Timer d)) b.timers in
+    let s9 = s8 ++ flat_map (λ t. whole_lines (thread_lines t)) b.threads in
+    ap (λ (t : List ℕ). s9 ++ t) (sym (flat_map-map whole_line (λ a. BoardLine.Arrive a) b.arrivals))
+    ∙ more-threads s8 b.threads _
+    ∙ more (λ d. BoardLine.Timer d) s7 b.timers _
+    ∙ more (λ d. BoardLine.Device d) s6 b.devices _
+    ∙ more (λ d. BoardLine.Pool d) s5 b.pools _
     ∙ more (λ d. BoardLine.Queue d) s4 b.queues _
     ∙ more (λ d. BoardLine.Mailbox d) s3 b.mailboxes _
     ∙ more (λ d. BoardLine.Mutex d) s2 b.mutexes _
@@ -109,20 +111,20 @@ unfolding whole_line
 whole-is [] = refl
 whole-is (l ∷ ls) = ap (λ (t : List ℕ). with_newline (text_of l) ++ t) (whole-is ls)
 
-pub board_is : (b : PlainBoard) → line_by_line (line_by_line (line_by_line [] (setting_lines b)) (shell_lines b.shell)) (limit_lines b) ++ whole_lines (object_lines b) ≡ canonical_text b
+-- a part of the lines, and those behind it
+part : (text : List ℕ) (here rest : List BoardLine) → line_by_line text here ++ whole_lines rest ≡ text ++ whole_lines (here ++ rest)
+part text here rest =
+    ap (λ (t : List ℕ). t ++ whole_lines rest) (by_line_is text here)
+    ∙ append_assoc text (whole_lines here) (whole_lines rest)
+    ∙ ap (λ (t : List ℕ). text ++ t) (sym (flat_map-append whole_line here rest))
+
+pub board_is : (b : PlainBoard) → line_by_line (line_by_line (line_by_line (line_by_line [] (setting_lines b)) (shell_lines b.shell)) (soft_lines b.soft)) (limit_lines b) ++ whole_lines (object_lines b) ≡ canonical_text b
 board_is b =
-    let set = setting_lines b in
-    let shell = shell_lines b.shell in
-    let limits = limit_lines b in
-    let objects = object_lines b in
-    let one = line_by_line [] set in
-    let two = line_by_line one shell in
-    ap (λ (t : List ℕ). t ++ whole_lines objects) (by_line_is two limits)
-    ∙ append_assoc two (whole_lines limits) (whole_lines objects)
-    ∙ ap (λ (t : List ℕ). two ++ t) (sym (flat_map-append whole_line limits objects))
-    ∙ ap (λ (t : List ℕ). t ++ whole_lines (limits ++ objects)) (by_line_is one shell)
-    ∙ append_assoc one (whole_lines shell) (whole_lines (limits ++ objects))
-    ∙ ap (λ (t : List ℕ). one ++ t) (sym (flat_map-append whole_line shell (limits ++ objects)))
-    ∙ ap (λ (t : List ℕ). t ++ whole_lines (shell ++ (limits ++ objects))) (by_line_is [] set)
-    ∙ sym (flat_map-append whole_line set (shell ++ (limits ++ objects)))
+    let one = line_by_line [] (setting_lines b) in
+    let two = line_by_line one (shell_lines b.shell) in
+    let three = line_by_line two (soft_lines b.soft) in
+    part three (limit_lines b) (object_lines b)
+    ∙ part two (soft_lines b.soft) _
+    ∙ part one (shell_lines b.shell) _
+    ∙ part [] (setting_lines b) _
     ∙ whole-is (board_lines b)

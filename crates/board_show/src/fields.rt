@@ -12,25 +12,31 @@ use rt_plain::{TimerKind, What};
 pub(crate) fn number(n: &u32) -> Shown<'static>
     ensures { shown result ≡ decimal n.now }
 {
+    Shown::Number(u64::from(*n))
+}
+
+pub(crate) fn moment(n: &u64) -> Shown<'static>
+    ensures { shown result ≡ decimal n.now }
+{
     Shown::Number(*n)
 }
 
 pub(crate) fn half(n: &u16) -> Shown<'static>
     ensures { shown result ≡ decimal n.now }
 {
-    Shown::Number(u32::from(*n))
+    Shown::Number(u64::from(*n))
 }
 
 pub(crate) fn byte(n: &u8) -> Shown<'static>
     ensures { shown result ≡ decimal n.now }
 {
-    Shown::Number(u32::from(*n))
+    Shown::Number(u64::from(*n))
 }
 
 pub(crate) fn prio(prio: &Prio) -> Shown<'static>
     ensures { shown result ≡ decimal prio.now }
 {
-    Shown::Number(u32::from(prio.0))
+    Shown::Number(u64::from(prio.0))
 }
 
 pub(crate) fn core(core: &Option<CoreNo>) -> Shown<'static>
@@ -38,7 +44,7 @@ pub(crate) fn core(core: &Option<CoreNo>) -> Shown<'static>
 {
     match core {
         None => Shown::Word(b"any"),
-        Some(core) => Shown::Number(u32::from(core.0)),
+        Some(core) => Shown::Number(u64::from(core.0)),
     }
 }
 
@@ -47,7 +53,7 @@ pub(crate) fn wait(timeout: &Option<u32>) -> Shown<'static>
 {
     match timeout {
         None => Shown::Word(b"ever"),
-        Some(n) => Shown::Number(*n),
+        Some(n) => Shown::Number(u64::from(*n)),
     }
 }
 
@@ -147,6 +153,8 @@ pub(crate) fn timer_kind(kind: &TimerKind) -> Shown<'static>
     match kind {
         TimerKind::OneShot => Shown::Word(b"oneshot"),
         TimerKind::Periodic => Shown::Word(b"periodic"),
+        TimerKind::SoftOne => Shown::Word(b"softone"),
+        TimerKind::SoftPer => Shown::Word(b"softper"),
     }
 }
 

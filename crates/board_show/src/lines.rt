@@ -14,8 +14,8 @@ use crate::statements::put_statement;
 use crate::writing::{put, put_line, put_number, put_words};
 use rt_base::{Event, List};
 use rt_plain::{
-    Arrival, DeviceDef, EventDef, LimitClass, MailboxDef, MutexDef, QueueDef, Schedule, SemDef,
-    Stmt, ThreadDef, TimerDef,
+    Arrival, DeviceDef, EventDef, LimitClass, MailboxDef, MutexDef, PoolDef, QueueDef, Schedule,
+    SemDef, Stmt, ThreadDef, TimerDef,
 };
 use std::alloc::AllocError;
 
@@ -117,6 +117,31 @@ pub(crate) fn put_queues(out: &mut List<u8>, defs: &[QueueDef]) -> Result<(), Al
 }
 
 #[tactic(auto, unfolding(crate::specs::Writing::whole_line))]
+fn put_pool(out: &mut List<u8>, def: &PoolDef) -> Result<(), AllocError>
+    ensures { OnOk result (out.new ≡ out.old ++ whole_line (said.Pool def.now)) }
+{
+    put_line(
+        out,
+        b"mempool",
+        &[
+            name(&def.name),
+            byte(&def.blocks),
+            half(&def.size),
+            order(&def.order),
+        ],
+    )
+}
+
+pub(crate) fn put_pools(out: &mut List<u8>, defs: &[PoolDef]) -> Result<(), AllocError>
+    ensures { OnOk result (out.new ≡ out.old ++ flat_map (λ def. whole_line (said.Pool def)) defs.now) }
+{
+    for def in defs {
+        put_pool(out, def)?;
+    }
+    Ok(())
+}
+
+#[tactic(auto, unfolding(crate::specs::Writing::whole_line))]
 fn put_device(out: &mut List<u8>, def: &DeviceDef) -> Result<(), AllocError>
     ensures { OnOk result (out.new ≡ out.old ++ whole_line (said.Device def.now)) }
 {
@@ -150,7 +175,7 @@ fn put_arrival(out: &mut List<u8>, def: &Arrival) -> Result<(), AllocError>
     put_line(
         out,
         b"arrive",
-        &[number(&def.tick), name(&def.device), text(&def.text)],
+        &[number(&def.count), name(&def.device), text(&def.text)],
     )
 }
 

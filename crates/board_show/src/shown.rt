@@ -2,7 +2,7 @@
 #[derive(Clone, Copy)]
 pub(crate) enum Shown<'a> {
     Word(&'a [u8]),
-    Number(u32),
+    Number(u64),
     Negative(u8),
     Quoted(&'a [u8]),
 }

@@ -84,7 +84,7 @@ fn put_shown(out: &mut List<u8>, word: Shown<'_>) -> Result<(), AllocError>
 {
     match word {
         Shown::Word(word) => put(out, word),
-        Shown::Number(n) => put_number(out, u64::from(n)),
+        Shown::Number(n) => put_number(out, n),
         Shown::Negative(n) => put_negative(out, n),
         Shown::Quoted(text) => put_quoted(out, text),
     }

@@ -12,6 +12,6 @@ mod tails;
 pub use fault::BoardFault;
 pub use reading::{LONGEST, parse};
 pub use rt_plain::{
-    Arrival, Board, Call, DeviceDef, EventDef, Limits, MailboxDef, MutexDef, QueueDef, Schedule,
-    SemDef, Stmt, ThreadDef, TimerDef, TimerKind, What, Why,
+    Arrival, Board, Call, DeviceDef, EventDef, Limits, MailboxDef, MutexDef, PoolDef, QueueDef,
+    Schedule, SemDef, Stmt, ThreadDef, TimerDef, TimerKind, What, Why,
 };

@@ -29,6 +29,7 @@ fn has_count(kind: Kind, words: &[&[u8]]) -> bool
 fn of_kind(alloc: Global, draft: &Draft, words: &[&[u8]], kind: Kind) -> Result<BoardLine, Refusal>
     requires low { 2 ≤ draft.now.levels }
     requires high { draft.now.levels ≤ 256 }
+    requires clock { 1 ≤ draft.now.lp_h }
     ensures { Gives result (of_kind (so_far draft.now) (map (λ w. w.now) words.now) kind) }
 {
     if is_out_of_order(draft, kind)
@@ -68,6 +69,7 @@ fn of_words(
 ) -> Result<BoardLine, Refusal>
     requires low { 2 ≤ draft.now.levels }
     requires high { draft.now.levels ≤ 256 }
+    requires clock { 1 ≤ draft.now.lp_h }
     ensures { Gives result (of_words (so_far draft.now) indented (map (λ w. w.now) words.now)) }
 {
     if has_empty(words) {
@@ -84,6 +86,7 @@ fn of_words(
 pub(crate) fn judged(alloc: Global, draft: &Draft, line: &[u8]) -> Result<BoardLine, Refusal>
     requires low { 2 ≤ draft.now.levels }
     requires high { draft.now.levels ≤ 256 }
+    requires clock { 1 ≤ draft.now.lp_h }
     ensures { Gives result (judged (so_far draft.now) line.now) }
 {
     if draft.rank == 0 && line != b"board 1".as_slice() {

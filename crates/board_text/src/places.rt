@@ -2,16 +2,19 @@
 ghost use Rattle.std.specs.Prelude.{◌≡◌, ◌≤◌, ◌==◌, ◌&&◌, length, bytes_eq};
 ghost use Rattle.std.specs.List.{list_any};
 ghost use Rattle.rt_plain.specs.LineTable.{row};
-ghost use Rattle.rt_plain.specs.BoardText.{is_out_of_order, limit_place, is_class_passed, is_limit_passed, is_twice, last_length, thread_limit, is_full, last_tick, is_beyond, is_event_beyond, is_schedule_beyond, is_timer_call, is_timer_statement, is_barred, has_device, is_astray, placed, shell_name, console_name};
+ghost use Rattle.rt_plain.specs.LpClock.{moment_after_counts};
+ghost use Rattle.rt_plain.specs.Opening.{arrival_moment};
+ghost use Rattle.rt_plain.specs.TimerKinds.{is_soft};
+ghost use Rattle.rt_plain.specs.BoardText.{is_out_of_order, limit_place, is_class_passed, is_limit_passed, is_twice, last_length, thread_limit, is_full, last_count, is_beyond, is_event_beyond, is_schedule_beyond, is_timer_call, is_timer_statement, is_barred, has_device, is_astray, placed, shell_name, soft_name, console_name};
 ghost use Rattle.board_text.specs.Drafts.{so_far, board_of};
 
 use crate::draft::Draft;
 use crate::table::{STATEMENT_RANK, is_statement, rank_of};
 use crate::tails::limit_named;
-use rt_base::{CoreNo, Event, Name, Prio};
+use rt_base::{CoreNo, Event, Name};
 use rt_plain::{
-    Arrival, BoardLine, Call, DeviceDef, EventDef, Kind, LimitClass, MailboxDef, MutexDef,
-    QueueDef, Schedule, SemDef, Stmt, Tail, ThreadDef, TimerDef, Why,
+    Arrival, BoardLine, Call, DeviceDef, EventDef, Kind, LimitClass, MailboxDef, MutexDef, PoolDef,
+    QueueDef, Schedule, SemDef, Stmt, Tail, ThreadDef, TimerDef, TimerKind, Why,
 };
 
 // ---- order
@@ -24,7 +27,7 @@ pub(crate) fn is_out_of_order(draft: &Draft, kind: Kind) -> bool
     if is_statement(kind) {
         draft.rank != STATEMENT_RANK
     } else {
-        rank < draft.rank || (rank <= 11 && rank == draft.rank)
+        rank < draft.rank || (rank <= 14 && rank == draft.rank)
     }
 }
 
@@ -90,6 +93,12 @@ fn has_queue(queues: &[QueueDef], name: &Name) -> bool
     queues.iter().any(|o| o.name.bytes() == name.bytes())
 }
 
+fn has_pool(pools: &[PoolDef], name: &Name) -> bool
+    ensures { result ≡ list_any (λ o. bytes_eq o.name name.now) pools.now }
+{
+    pools.iter().any(|o| o.name.bytes() == name.bytes())
+}
+
 fn has_device(devices: &[DeviceDef], name: &Name) -> bool
     ensures { result ≡ list_any (λ o. bytes_eq o.name name.now) devices.now }
 {
@@ -108,10 +117,28 @@ fn has_thread(threads: &[ThreadDef], name: &Name) -> bool
     threads.iter().any(|o| o.name.bytes() == name.bytes())
 }
 
-fn has_arrival(arrivals: &[Arrival], a: &Arrival) -> bool
-    ensures { result ≡ list_any (λ o. o.tick == a.now.tick && bytes_eq o.device a.now.device) arrivals.now }
+/// The first moment at which the low-power clock has made so many counts.
+fn moment_after_counts(h: u32, q: u32, count: u32) -> u64
+    requires { 1 ≤ h }
+    ensures { result ≡ moment_after_counts h q count }
 {
-    arrivals.iter().any(|o| o.tick == a.tick && o.device.bytes() == a.device.bytes())
+    (u64::from(count) * u64::from(q) + u64::from(h - 1)) / u64::from(h)
+}
+
+fn arrival_moment(draft: &Draft, a: &Arrival) -> u64
+    requires { 1 ≤ draft.now.lp_h }
+    ensures { result ≡ arrival_moment (board_of draft.now) a.now }
+{
+    moment_after_counts(draft.lp_h, draft.lp_q, a.count)
+}
+
+fn has_arrival(draft: &Draft, a: &Arrival) -> bool
+    requires { 1 ≤ draft.now.lp_h }
+    ensures { result ≡ list_any (λ o. arrival_moment (board_of draft.now) o == arrival_moment (board_of draft.now) a.now && bytes_eq o.device a.now.device) draft.now.arrivals }
+{
+    let moment = arrival_moment(draft, a);
+    let arrivals = draft.arrivals.as_slice();
+    arrivals.iter().any(|o| arrival_moment(draft, o) == moment && o.device.bytes() == a.device.bytes())
 }
 
 fn is_console(name: &Name) -> bool
@@ -126,7 +153,14 @@ fn is_shell(name: &Name) -> bool
     b"tshell".as_slice() == name.bytes()
 }
 
+fn is_soft_thread(name: &Name) -> bool
+    ensures { result ≡ bytes_eq soft_name name.now }
+{
+    b"tsoft".as_slice() == name.bytes()
+}
+
 fn is_twice(draft: &Draft, line: &BoardLine) -> bool
+    requires { 1 ≤ draft.now.lp_h }
     ensures { result ≡ is_twice (board_of draft.now) line.now }
 {
     match line {
@@ -135,15 +169,17 @@ fn is_twice(draft: &Draft, line: &BoardLine) -> bool
         BoardLine::Mutex(d) => has_mutex(draft.mutexes.as_slice(), &d.name),
         BoardLine::Mailbox(d) => has_mailbox(draft.mailboxes.as_slice(), &d.name),
         BoardLine::Queue(d) => has_queue(draft.queues.as_slice(), &d.name),
+        BoardLine::Pool(d) => has_pool(draft.pools.as_slice(), &d.name),
         BoardLine::Device(d) => {
             is_console(&d.name) || has_device(draft.devices.as_slice(), &d.name)
         }
         BoardLine::Timer(d) => has_timer(draft.timers.as_slice(), &d.name),
         BoardLine::Thread(t) => {
             (draft.shell.is_some() && is_shell(&t.name))
+                || (draft.soft.is_some() && is_soft_thread(&t.name))
                 || has_thread(draft.threads.as_slice(), &t.name)
         }
-        BoardLine::Arrive(a) => has_arrival(draft.arrivals.as_slice(), a),
+        BoardLine::Arrive(a) => has_arrival(draft, a),
         _ => false,
     }
 }
@@ -160,13 +196,10 @@ fn last_length(threads: &[ThreadDef]) -> usize
     threads[threads.len() - 1].script.len()
 }
 
-fn thread_limit(shell: Option<Prio>) -> usize
-    ensures { result ≡ thread_limit shell }
+fn thread_limit(draft: &Draft) -> usize
+    ensures { result ≡ thread_limit (board_of draft.now) }
 {
-    match shell {
-        Some(_) => 255,
-        None => 256,
-    }
+    256 - usize::from(draft.shell.is_some()) - usize::from(draft.soft.is_some())
 }
 
 fn is_full(draft: &Draft, line: &BoardLine) -> bool
@@ -178,9 +211,10 @@ fn is_full(draft: &Draft, line: &BoardLine) -> bool
         BoardLine::Mutex(_) => usize::from(draft.limits.mutex) <= draft.mutexes.len(),
         BoardLine::Mailbox(_) => 64 <= draft.mailboxes.len(),
         BoardLine::Queue(_) => 64 <= draft.queues.len(),
+        BoardLine::Pool(_) => 64 <= draft.pools.len(),
         BoardLine::Device(_) => 15 <= draft.devices.len(),
         BoardLine::Timer(_) => 64 <= draft.timers.len(),
-        BoardLine::Thread(_) => thread_limit(draft.shell) <= draft.threads.len(),
+        BoardLine::Thread(_) => thread_limit(draft) <= draft.threads.len(),
         BoardLine::Statement(_) => 512 <= last_length(draft.threads.as_slice()),
         BoardLine::Arrive(_) => 4096 <= draft.arrivals.len(),
         _ => false,
@@ -190,13 +224,13 @@ fn is_full(draft: &Draft, line: &BoardLine) -> bool
 // ---- references
 
 #[tactic(auto, using(rt_plain::proofs::BoardLemmas::last_arrival))]
-fn last_tick(arrivals: &[Arrival]) -> u32
-    ensures { result ≡ last_tick arrivals.now }
+fn last_count(arrivals: &[Arrival]) -> u32
+    ensures { result ≡ last_count arrivals.now }
 {
     if arrivals.is_empty() {
         return 0;
     }
-    arrivals[arrivals.len() - 1].tick
+    arrivals[arrivals.len() - 1].count
 }
 
 fn is_beyond(cores: u8, core: Option<CoreNo>) -> bool
@@ -272,15 +306,26 @@ fn is_barred(call: &Option<Stmt>) -> bool
     }
 }
 
+fn is_soft(kind: TimerKind) -> bool
+    ensures { result ≡ is_soft kind }
+{
+    match kind {
+        TimerKind::OneShot => false,
+        TimerKind::Periodic => false,
+        TimerKind::SoftOne => true,
+        TimerKind::SoftPer => true,
+    }
+}
+
 fn is_astray(draft: &Draft, line: &BoardLine) -> bool
     ensures { result ≡ is_astray (board_of draft.now) line.now }
 {
     match line {
         BoardLine::Schedule(schedule) => is_schedule_beyond(draft.cores, schedule),
-        BoardLine::Timer(d) => is_barred(&d.call),
+        BoardLine::Timer(d) => is_barred(&d.call) || (is_soft(d.kind) && draft.soft.is_none()),
         BoardLine::Thread(t) => is_beyond(draft.cores, t.core),
         BoardLine::Arrive(a) => {
-            a.tick < last_tick(draft.arrivals.as_slice())
+            a.count < last_count(draft.arrivals.as_slice())
                 || !(is_console(&a.device) || has_device(draft.devices.as_slice(), &a.device))
         }
         _ => false,
@@ -289,6 +334,7 @@ fn is_astray(draft: &Draft, line: &BoardLine) -> bool
 
 /// The line, where it stands rightly.
 pub(crate) fn placed(draft: &Draft, line: BoardLine) -> Result<BoardLine, Why>
+    requires { 1 ≤ draft.now.lp_h }
     ensures { result ≡ placed (board_of draft.now) line }
 {
     if is_twice(draft, &line) {

@@ -57,6 +57,7 @@ fn after_line(rest: &[u8], end: usize) -> &[u8]
 fn take_line(alloc: Global, draft: &mut Draft, line: &[u8]) -> Result<(), Refusal>
     requires low { 2 ≤ draft.old.levels }
     requires high { draft.old.levels ≤ 256 }
+    requires clock { 1 ≤ draft.old.lp_h }
     ensures ok { OnOk result ((l : LineSaid) × (judged (so_far draft.old) line.now ≡ Ok l) × (so_far draft.new ≡ after (so_far draft.old) l)) }
     ensures err { IfErr result (λ e. Fails e (judged (so_far draft.old) line.now)) }
 {
@@ -69,6 +70,7 @@ fn take_line(alloc: Global, draft: &mut Draft, line: &[u8]) -> Result<(), Refusa
 fn step(alloc: Global, draft: &mut Draft, line: &[u8]) -> Result<(), Refusal>
     requires low { 2 ≤ draft.old.levels }
     requires high { draft.old.levels ≤ 256 }
+    requires clock { 1 ≤ draft.old.lp_h }
     ensures ok { OnOk result (Passes (so_far draft.old) line.now (so_far draft.new)) }
     ensures err { IfErr result (λ e. Stops (so_far draft.old) line.now e) }
 {

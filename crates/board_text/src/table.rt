@@ -9,17 +9,17 @@ use crate::fault::Refusal;
 use crate::tails::{read_limit, read_schedule, read_timer};
 use rt_plain::fields::{
     all0, all1, all2, all3, all4, all5, all6, armed, both, byte, class, code, core, half, how,
-    indicated, keep, levels, mode, name, number, on_off, order, power, prio, run, started, text,
-    timer_kind, wait, what, word_at,
+    indicated, keep, levels, mode, moment, name, number, on_off, order, power, prio, run, started,
+    text, timer_kind, wait, what, word_at,
 };
 use rt_plain::{
-    Arrival, BoardLine, Call, DeviceDef, EventDef, Kind, LineKind, MailboxDef, MutexDef, QueueDef,
-    SemDef, StatementKind, Stmt, Tail, ThreadLine, Why,
+    Arrival, BoardLine, Call, DeviceDef, EventDef, Kind, LineKind, MailboxDef, MutexDef, PoolDef,
+    QueueDef, SemDef, StatementKind, Stmt, Tail, ThreadLine, Why,
 };
 use std::alloc::Global;
 
 /// A statement line has the rank of threads.
-pub(crate) const STATEMENT_RANK: u8 = 20;
+pub(crate) const STATEMENT_RANK: u8 = 24;
 
 /// All statements. A row has the kind, the word, the value, and the fields with their places.
 #[macro_export]
@@ -76,6 +76,8 @@ macro_rules! statement_rows {
                 PmRequest b"pm_request" all1 (Call::PmRequest(m)) {1 m: mode()}
                 PmRelease b"pm_release" all1 (Call::PmRelease(m)) {1 m: mode()}
                 PmRun b"pm_run" all1 (Call::PmRun(r)) {1 r: run()}
+                MpAlloc b"mp_alloc" all2 (Call::MpAlloc(o, w)) {1 o: name() 2 w: wait()}
+                MpFree b"mp_free" all1 (Call::MpFree(o)) {1 o: name()}
             }
         }
     };
@@ -91,25 +93,29 @@ macro_rules! line_rows {
                 Cores 2 b"cores" all1 (BoardLine::Cores(n)) {1 n: byte(1, 8)}
                 Levels 3 b"levels" all1 (BoardLine::Levels(n)) {1 n: levels()}
                 Tickless 4 b"tickless" all1 (BoardLine::Tickless(b)) {1 b: on_off()}
-                Until 5 b"until" all1 (BoardLine::Until(n)) {1 n: number(1, 4294967295)}
-                Entries 6 b"entries" all1 (BoardLine::Entries(n)) {1 n: number(1, 1000000)}
-                LpMax 7 b"lpmax" all1 (BoardLine::LpMax(n)) {1 n: number(1, 2147483647)}
-                Thresh 8 b"thresh" all1 (BoardLine::Thresh(n)) {1 n: number(1, 2147483647)}
-                DefaultMode 9 b"default" all1 (BoardLine::DefaultMode(m)) {1 m: mode()}
-                Shell 11 b"shell" all1 (BoardLine::Shell(p)) {1 p: prio(0, below_idle($levels))}
-                Sem 13 b"sem" all3 (BoardLine::Sem(SemDef { name: n, value: v, order: o })) {1 n: name() 2 v: half(0, 65535) 3 o: order()}
-                Event 14 b"event" all2 (BoardLine::Event(EventDef { name: n, order: o })) {1 n: name() 2 o: order()}
-                Mutex 15 b"mutex" all2 (BoardLine::Mutex(MutexDef { name: n, ceiling: c })) {1 n: name() 2 c: prio(0, idle($levels))}
-                Mailbox 16 b"mailbox" all3 (BoardLine::Mailbox(MailboxDef { name: n, size: s, order: o })) {1 n: name() 2 s: byte(1, 64) 3 o: order()}
-                Queue 17 b"msgqueue" all4 (BoardLine::Queue(QueueDef { name: n, max: m, size: s, order: o })) {1 n: name() 2 m: byte(1, 64) 3 s: byte(1, 64) 4 o: order()}
-                Device 18 b"device" all6 (BoardLine::Device(DeviceDef { name: n, rx: r, tx: t, rate: k, pm: p, ind: i })) {1 n: name() 2 r: byte(1, 64) 3 t: byte(1, 64) 4 k: byte(1, 64) 5 p: power() 6 i: indicated()}
-                Thread 20 b"thread" all5 (BoardLine::Thread(ThreadLine { name: n, prio: p, slice: s, core: c, started: b })) {1 n: name() 2 p: prio(0, below_idle($levels)) 3 s: byte(1, 255) 4 c: core() 5 b: started()}
-                Arrive 21 b"arrive" all3 (BoardLine::Arrive(Arrival { tick: n, device: d, text: t })) {1 n: number(1, 4294967295) 2 d: name() 3 t: text()}
+                Tick0 5 b"tick0" all1 (BoardLine::Tick0(n)) {1 n: number(0, 4294967295)}
+                Until 6 b"until" all1 (BoardLine::Until(n)) {1 n: moment()}
+                Entries 7 b"entries" all1 (BoardLine::Entries(n)) {1 n: number(1, 1000000)}
+                LpMax 8 b"lpmax" all1 (BoardLine::LpMax(n)) {1 n: number(1, 2147483647)}
+                Thresh 9 b"thresh" all1 (BoardLine::Thresh(n)) {1 n: number(1, 2147483647)}
+                LpClock 10 b"lpclock" all2 (BoardLine::LpClock(h, q)) {1 h: number(1, 1000000) 2 q: number(1, 1000)}
+                DefaultMode 11 b"default" all1 (BoardLine::DefaultMode(m)) {1 m: mode()}
+                Shell 13 b"shell" all1 (BoardLine::Shell(p)) {1 p: prio(0, below_idle($levels))}
+                Soft 14 b"soft" all1 (BoardLine::Soft(p)) {1 p: prio(0, below_idle($levels))}
+                Sem 16 b"sem" all3 (BoardLine::Sem(SemDef { name: n, value: v, order: o })) {1 n: name() 2 v: half(0, 65535) 3 o: order()}
+                Event 17 b"event" all2 (BoardLine::Event(EventDef { name: n, order: o })) {1 n: name() 2 o: order()}
+                Mutex 18 b"mutex" all2 (BoardLine::Mutex(MutexDef { name: n, ceiling: c })) {1 n: name() 2 c: prio(0, idle($levels))}
+                Mailbox 19 b"mailbox" all3 (BoardLine::Mailbox(MailboxDef { name: n, size: s, order: o })) {1 n: name() 2 s: byte(1, 64) 3 o: order()}
+                Queue 20 b"msgqueue" all4 (BoardLine::Queue(QueueDef { name: n, max: m, size: s, order: o })) {1 n: name() 2 m: byte(1, 64) 3 s: byte(1, 64) 4 o: order()}
+                Pool 21 b"mempool" all4 (BoardLine::Pool(PoolDef { name: n, blocks: b, size: s, order: o })) {1 n: name() 2 b: byte(1, 64) 3 s: half(1, 65535) 4 o: order()}
+                Device 22 b"device" all6 (BoardLine::Device(DeviceDef { name: n, rx: r, tx: t, rate: k, pm: p, ind: i })) {1 n: name() 2 r: byte(1, 64) 3 t: byte(1, 64) 4 k: byte(1, 64) 5 p: power() 6 i: indicated()}
+                Thread 24 b"thread" all5 (BoardLine::Thread(ThreadLine { name: n, prio: p, slice: s, core: c, started: b })) {1 n: name() 2 p: prio(0, below_idle($levels)) 3 s: byte(1, 255) 4 c: core() 5 b: started()}
+                Arrive 25 b"arrive" all3 (BoardLine::Arrive(Arrival { count: n, device: d, text: t })) {1 n: number(1, 4294967295) 2 d: name() 3 t: text()}
             }
             tails {
-                Schedule 10 b"schedule" SetsSchedule 0
-                Limit 12 b"limit" SetsLimit 0
-                Timer 19 b"timer" MakesCall 4
+                Schedule 12 b"schedule" SetsSchedule 0
+                Limit 15 b"limit" SetsLimit 0
+                Timer 23 b"timer" MakesCall 4
             }
         }
     };
@@ -398,7 +404,7 @@ macro_rules! every_statement {
 }
 
 #[tactic(auto, unfolding(rt_plain::specs::StatementTable::all_statements))]
-fn every_statement() -> [StatementKind; 46]
+fn every_statement() -> [StatementKind; 48]
     ensures { result ≡ all_statements }
 {
     statement_rows!(every_statement 0)
@@ -424,7 +430,7 @@ pub(crate) fn statement_named(given: &[u8]) -> Option<StatementKind>
 }
 
 #[tactic(auto, unfolding(rt_plain::specs::LineTable::all_lines))]
-fn every_line() -> [LineKind; 21]
+fn every_line() -> [LineKind; 25]
     ensures { result ≡ all_lines }
 {
     [
@@ -432,19 +438,23 @@ fn every_line() -> [LineKind; 21]
         LineKind::Cores,
         LineKind::Levels,
         LineKind::Tickless,
+        LineKind::Tick0,
         LineKind::Until,
         LineKind::Entries,
         LineKind::LpMax,
         LineKind::Thresh,
+        LineKind::LpClock,
         LineKind::DefaultMode,
         LineKind::Schedule,
         LineKind::Shell,
+        LineKind::Soft,
         LineKind::Limit,
         LineKind::Sem,
         LineKind::Event,
         LineKind::Mutex,
         LineKind::Mailbox,
         LineKind::Queue,
+        LineKind::Pool,
         LineKind::Device,
         LineKind::Timer,
         LineKind::Thread,

@@ -35,6 +35,8 @@ macro_rules! trace_rows {
                 Close b"close" all1 (Line::Close(t)) {1 t: name()}
                 Own b"own" all2 (Line::Own(m, t)) {1 m: name() 2 t: name()}
                 Mode b"mode" all1 (Line::Mode(m)) {1 m: mode()}
+                Work b"work" all2 (Line::Work(o, f)) {1 o: name() 2 f: acted()}
+                Unwork b"unwork" all1 (Line::Unwork(o)) {1 o: name()}
             }
             stated {
                 Done b"do" done
@@ -139,7 +141,7 @@ fn trace_count(kind: TraceKind) -> usize
 }
 
 #[tactic(auto, unfolding(rt_plain::specs::TraceRows::all_trace_kinds))]
-fn every_kind() -> [TraceKind; 18]
+fn every_kind() -> [TraceKind; 20]
     ensures { result ≡ all_trace_kinds }
 {
     [
@@ -161,6 +163,8 @@ fn every_kind() -> [TraceKind; 18]
         TraceKind::Close,
         TraceKind::Own,
         TraceKind::Mode,
+        TraceKind::Work,
+        TraceKind::Unwork,
     ]
 }
 

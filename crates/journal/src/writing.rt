@@ -60,6 +60,7 @@ fn put_fired(out: &mut List<u8>, fired: Fired) -> Result<(), AllocError>
     match fired {
         Fired::Code(code) => put_code(out, code),
         Fired::Nothing => put(out, b"-"),
+        Fired::Soft => put(out, b"soft"),
     }
 }
 
@@ -179,10 +180,16 @@ fn put_change(out: &mut List<u8>, name: &Name, before: Prio, after: Prio) -> Res
     put_number(out, after.0 as u64)
 }
 
-fn put_fire(out: &mut List<u8>, name: &Name, fired: Fired) -> Result<(), AllocError>
-    ensures { OnOk result (out.new ≡ out.old ++ words (codes "fire" ∷ name.now ∷ fired_text fired ∷ [])) }
+// The words of a line on what came of a timer's call.
+fn put_acted(
+    out: &mut List<u8>,
+    word: &[u8],
+    name: &Name,
+    fired: Fired,
+) -> Result<(), AllocError>
+    ensures { OnOk result (out.new ≡ out.old ++ words (word.now ∷ name.now ∷ fired_text fired ∷ [])) }
 {
-    put_named(out, b"fire", name)?;
+    put_named(out, word, name)?;
     put(out, b" ")?;
     put_fired(out, fired)
 }
@@ -253,7 +260,7 @@ fn put_words(out: &mut List<u8>, line: &Line) -> Result<(), AllocError>
         Line::Again(name, k, answer) => put_stated(out, b"again", name, *k, *answer),
         Line::Wake(name, woke) => put_wake(out, name, *woke),
         Line::Cur(name, old, new) => put_change(out, name, *old, *new),
-        Line::Fire(name, fired) => put_fire(out, name, *fired),
+        Line::Fire(name, fired) => put_acted(out, b"fire", name, *fired),
         Line::Timeout(name) => put_named(out, b"timeout", name),
         Line::Rx(name, text, lost) => put_received(out, name, text, *lost),
         Line::Tx(name, text) => put_moved(out, b"tx", name, text),
@@ -265,6 +272,8 @@ fn put_words(out: &mut List<u8>, line: &Line) -> Result<(), AllocError>
         Line::Close(name) => put_named(out, b"close", name),
         Line::Own(mutex, name) => put_own(out, mutex, name),
         Line::Mode(mode) => put_mode(out, *mode),
+        Line::Work(name, fired) => put_acted(out, b"work", name, *fired),
+        Line::Unwork(name) => put_named(out, b"unwork", name),
     }
 }
 

@@ -105,6 +105,12 @@ returns-in-PmRelease-statement_rows c = call_put c.args.call.now _ c.all1-in-PmR
 pub returns-in-PmRun-statement_rows : goal.returns-in-PmRun-statement_rows
 returns-in-PmRun-statement_rows c = call_put c.args.call.now _ c.all1-in-PmRun-1.result c.args.out.now c.all1-in-PmRun-1.new.out _ c.in-PmRun-statement_rows.run-arg-1-own.given.1 (words-same refl (words-same c.run.ensures refl)) c.all1-in-PmRun-1.ensures
 
+pub returns-in-MpAlloc-statement_rows : goal.returns-in-MpAlloc-statement_rows
+returns-in-MpAlloc-statement_rows c = call_put c.args.call.now (Call.MpAlloc c.in-MpAlloc-statement_rows.name-arg-in-MpAlloc-1-own.given.0.0 c.in-MpAlloc-statement_rows.wait-arg-in-MpAlloc-1-own.given.0.1.0) c.all2-in-MpAlloc-1.result c.args.out.now c.all2-in-MpAlloc-1.new.out _ (cc (c.in-MpAlloc-statement_rows.name-arg-in-MpAlloc-1-own.given.1, c.in-MpAlloc-statement_rows.wait-arg-in-MpAlloc-1-own.given.1)) (words-same refl (words-same c.name-in-MpAlloc-1.ensures (words-same c.wait-in-MpAlloc-1.ensures refl))) c.all2-in-MpAlloc-1.ensures
+
+pub returns-in-MpFree-statement_rows : goal.returns-in-MpFree-statement_rows
+returns-in-MpFree-statement_rows c = call_put c.args.call.now _ c.all1-in-MpFree-1.result c.args.out.now c.all1-in-MpFree-1.new.out _ c.in-MpFree-statement_rows.name-arg-in-MpFree-1-own.given.1 (words-same refl (words-same c.name-in-MpFree-1.ensures refl)) c.all1-in-MpFree-1.ensures
+
 pub returns-in-Yield-statement_rows : goal.returns-in-Yield-statement_rows
 returns-in-Yield-statement_rows c = call_put c.args.call.now Call.Yield c.all0.result c.args.out.now c.all0.new.out _ c.in-Yield-statement_rows.is refl c.all0.ensures
 

@@ -21,6 +21,9 @@ returns-in-Levels-clause-ok c = ap (with_part c.args.draft.now) (sym c.in-Levels
 pub returns-in-Tickless-clause-ok : goal.returns-in-Tickless-clause-ok
 returns-in-Tickless-clause-ok c = ap (with_part c.args.draft.now) (sym c.in-Tickless.is)
 
+pub returns-in-Tick0-clause-ok : goal.returns-in-Tick0-clause-ok
+returns-in-Tick0-clause-ok c = ap (with_part c.args.draft.now) (sym c.in-Tick0.is)
+
 pub returns-in-Until-clause-ok : goal.returns-in-Until-clause-ok
 returns-in-Until-clause-ok c = ap (with_part c.args.draft.now) (sym c.in-Until.is)
 
@@ -33,6 +36,9 @@ returns-in-LpMax-clause-ok c = ap (with_part c.args.draft.now) (sym c.in-LpMax.i
 pub returns-in-Thresh-clause-ok : goal.returns-in-Thresh-clause-ok
 returns-in-Thresh-clause-ok c = ap (with_part c.args.draft.now) (sym c.in-Thresh.is)
 
+pub returns-in-LpClock-clause-ok : goal.returns-in-LpClock-clause-ok
+returns-in-LpClock-clause-ok c = ap (with_part c.args.draft.now) (sym c.in-LpClock.is)
+
 pub returns-in-DefaultMode-clause-ok : goal.returns-in-DefaultMode-clause-ok
 returns-in-DefaultMode-clause-ok c = ap (with_part c.args.draft.now) (sym c.in-DefaultMode.is)
 
@@ -41,3 +47,6 @@ returns-in-Schedule-clause-ok c = ap (with_part c.args.draft.now) (sym c.in-Sche
 
 pub returns-in-Shell-clause-ok : goal.returns-in-Shell-clause-ok
 returns-in-Shell-clause-ok c = ap (with_part c.args.draft.now) (sym c.in-Shell.is)
+
+pub returns-in-Soft-clause-ok : goal.returns-in-Soft-clause-ok
+returns-in-Soft-clause-ok c = ap (with_part c.args.draft.now) (sym c.in-Soft.is)

@@ -20,6 +20,10 @@ pub returns-in-Tickless : goal.returns-in-Tickless
 unfolding row
 returns-in-Tickless c = record { count = ap (λ (k : LineKind). length (row (Kind.Line k)).fields) (sym c.in-Tickless.is); few = omega arith }
 
+pub returns-in-Tick0 : goal.returns-in-Tick0
+unfolding row
+returns-in-Tick0 c = record { count = ap (λ (k : LineKind). length (row (Kind.Line k)).fields) (sym c.in-Tick0.is); few = omega arith }
+
 pub returns-in-Until : goal.returns-in-Until
 unfolding row
 returns-in-Until c = record { count = ap (λ (k : LineKind). length (row (Kind.Line k)).fields) (sym c.in-Until.is); few = omega arith }
@@ -36,6 +40,10 @@ pub returns-in-Thresh : goal.returns-in-Thresh
 unfolding row
 returns-in-Thresh c = record { count = ap (λ (k : LineKind). length (row (Kind.Line k)).fields) (sym c.in-Thresh.is); few = omega arith }
 
+pub returns-in-LpClock : goal.returns-in-LpClock
+unfolding row
+returns-in-LpClock c = record { count = ap (λ (k : LineKind). length (row (Kind.Line k)).fields) (sym c.in-LpClock.is); few = omega arith }
+
 pub returns-in-DefaultMode : goal.returns-in-DefaultMode
 unfolding row
 returns-in-DefaultMode c = record { count = ap (λ (k : LineKind). length (row (Kind.Line k)).fields) (sym c.in-DefaultMode.is); few = omega arith }
@@ -47,6 +55,10 @@ returns-in-Schedule c = record { count = ap (λ (k : LineKind). length (row (Kin
 pub returns-in-Shell : goal.returns-in-Shell
 unfolding row
 returns-in-Shell c = record { count = ap (λ (k : LineKind). length (row (Kind.Line k)).fields) (sym c.in-Shell.is); few = omega arith }
+
+pub returns-in-Soft : goal.returns-in-Soft
+unfolding row
+returns-in-Soft c = record { count = ap (λ (k : LineKind). length (row (Kind.Line k)).fields) (sym c.in-Soft.is); few = omega arith }
 
 pub returns-in-Limit : goal.returns-in-Limit
 unfolding row
@@ -71,6 +83,10 @@ returns-in-Mailbox c = record { count = ap (λ (k : LineKind). length (row (Kind
 pub returns-in-Queue : goal.returns-in-Queue
 unfolding row
 returns-in-Queue c = record { count = ap (λ (k : LineKind). length (row (Kind.Line k)).fields) (sym c.in-Queue.is); few = omega arith }
+
+pub returns-in-Pool : goal.returns-in-Pool
+unfolding row
+returns-in-Pool c = record { count = ap (λ (k : LineKind). length (row (Kind.Line k)).fields) (sym c.in-Pool.is); few = omega arith }
 
 pub returns-in-Device : goal.returns-in-Device
 unfolding row

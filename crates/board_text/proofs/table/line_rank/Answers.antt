@@ -20,6 +20,10 @@ pub returns-in-Tickless : goal.returns-in-Tickless
 unfolding row
 returns-in-Tickless c = ap (λ (k : LineKind). (row (Kind.Line k)).rank) (sym c.in-Tickless.is)
 
+pub returns-in-Tick0 : goal.returns-in-Tick0
+unfolding row
+returns-in-Tick0 c = ap (λ (k : LineKind). (row (Kind.Line k)).rank) (sym c.in-Tick0.is)
+
 pub returns-in-Until : goal.returns-in-Until
 unfolding row
 returns-in-Until c = ap (λ (k : LineKind). (row (Kind.Line k)).rank) (sym c.in-Until.is)
@@ -36,6 +40,10 @@ pub returns-in-Thresh : goal.returns-in-Thresh
 unfolding row
 returns-in-Thresh c = ap (λ (k : LineKind). (row (Kind.Line k)).rank) (sym c.in-Thresh.is)
 
+pub returns-in-LpClock : goal.returns-in-LpClock
+unfolding row
+returns-in-LpClock c = ap (λ (k : LineKind). (row (Kind.Line k)).rank) (sym c.in-LpClock.is)
+
 pub returns-in-DefaultMode : goal.returns-in-DefaultMode
 unfolding row
 returns-in-DefaultMode c = ap (λ (k : LineKind). (row (Kind.Line k)).rank) (sym c.in-DefaultMode.is)
@@ -47,6 +55,10 @@ returns-in-Schedule c = ap (λ (k : LineKind). (row (Kind.Line k)).rank) (sym c.
 pub returns-in-Shell : goal.returns-in-Shell
 unfolding row
 returns-in-Shell c = ap (λ (k : LineKind). (row (Kind.Line k)).rank) (sym c.in-Shell.is)
+
+pub returns-in-Soft : goal.returns-in-Soft
+unfolding row
+returns-in-Soft c = ap (λ (k : LineKind). (row (Kind.Line k)).rank) (sym c.in-Soft.is)
 
 pub returns-in-Limit : goal.returns-in-Limit
 unfolding row
@@ -71,6 +83,10 @@ returns-in-Mailbox c = ap (λ (k : LineKind). (row (Kind.Line k)).rank) (sym c.i
 pub returns-in-Queue : goal.returns-in-Queue
 unfolding row
 returns-in-Queue c = ap (λ (k : LineKind). (row (Kind.Line k)).rank) (sym c.in-Queue.is)
+
+pub returns-in-Pool : goal.returns-in-Pool
+unfolding row
+returns-in-Pool c = ap (λ (k : LineKind). (row (Kind.Line k)).rank) (sym c.in-Pool.is)
 
 pub returns-in-Device : goal.returns-in-Device
 unfolding row

@@ -263,3 +263,15 @@ returns-in-Ok-all1-18 c = statement-read c.args.board_levels (nows c.args.words.
 
 pub returns-in-Err-all1-18 : goal.returns-in-Err-all1-18
 returns-in-Err-all1-18 c = statement-read c.args.board_levels (nows c.args.words.now) c.args.kind StatementKind.PmRun _ c.in-PmRun.is (c.in-Err-all1-18.ensures ∙ both-same c.run.ensures refl)
+
+pub returns-in-Ok-all2-18 : goal.returns-in-Ok-all2-18
+returns-in-Ok-all2-18 c = statement-read c.args.board_levels (nows c.args.words.now) c.args.kind StatementKind.MpAlloc _ c.in-MpAlloc.is (c.in-Ok-all2-18.ensures ∙ both-same c.name-in-MpAlloc.ensures (both-same c.wait-in-MpAlloc.ensures refl))
+
+pub returns-in-Err-all2-18 : goal.returns-in-Err-all2-18
+returns-in-Err-all2-18 c = statement-read c.args.board_levels (nows c.args.words.now) c.args.kind StatementKind.MpAlloc _ c.in-MpAlloc.is (c.in-Err-all2-18.ensures ∙ both-same c.name-in-MpAlloc.ensures (both-same c.wait-in-MpAlloc.ensures refl))
+
+pub returns-in-Ok-all1-19 : goal.returns-in-Ok-all1-19
+returns-in-Ok-all1-19 c = statement-read c.args.board_levels (nows c.args.words.now) c.args.kind StatementKind.MpFree _ c.in-MpFree.is (c.in-Ok-all1-19.ensures ∙ both-same c.name-in-MpFree.ensures refl)
+
+pub returns-in-Err-all1-19 : goal.returns-in-Err-all1-19
+returns-in-Err-all1-19 c = statement-read c.args.board_levels (nows c.args.words.now) c.args.kind StatementKind.MpFree _ c.in-MpFree.is (c.in-Err-all1-19.ensures ∙ both-same c.name-in-MpFree.ensures refl)

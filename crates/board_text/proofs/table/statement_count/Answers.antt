@@ -186,3 +186,11 @@ returns-in-PmRelease c = record { count = ap (λ (k : StatementKind). statement_
 pub returns-in-PmRun : goal.returns-in-PmRun
 unfolding statement_count
 returns-in-PmRun c = record { count = ap (λ (k : StatementKind). statement_count k) (sym c.in-PmRun.is); few = omega arith }
+
+pub returns-in-MpAlloc : goal.returns-in-MpAlloc
+unfolding statement_count
+returns-in-MpAlloc c = record { count = ap (λ (k : StatementKind). statement_count k) (sym c.in-MpAlloc.is); few = omega arith }
+
+pub returns-in-MpFree : goal.returns-in-MpFree
+unfolding statement_count
+returns-in-MpFree c = record { count = ap (λ (k : StatementKind). statement_count k) (sym c.in-MpFree.is); few = omega arith }

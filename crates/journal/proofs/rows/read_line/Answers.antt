@@ -102,6 +102,18 @@ returns-in-Ok-all1-7 c = line-read (nows c.args.words.now) c.args.kind TraceKind
 pub returns-in-Err-all1-7 : goal.returns-in-Err-all1-7
 returns-in-Err-all1-7 c = line-read (nows c.args.words.now) c.args.kind TraceKind.Mode _ c.in-Mode.is (c.in-Err-all1-7.ensures ∙ both-same c.mode-in-Mode.ensures refl)
 
+pub returns-in-Ok-all2-9 : goal.returns-in-Ok-all2-9
+returns-in-Ok-all2-9 c = line-read (nows c.args.words.now) c.args.kind TraceKind.Work _ c.in-Work.is (c.in-Ok-all2-9.ensures ∙ both-same c.name-in-Work.ensures (both-same c.acted-in-Work.ensures refl))
+
+pub returns-in-Err-all2-9 : goal.returns-in-Err-all2-9
+returns-in-Err-all2-9 c = line-read (nows c.args.words.now) c.args.kind TraceKind.Work _ c.in-Work.is (c.in-Err-all2-9.ensures ∙ both-same c.name-in-Work.ensures (both-same c.acted-in-Work.ensures refl))
+
+pub returns-in-Ok-all1-8 : goal.returns-in-Ok-all1-8
+returns-in-Ok-all1-8 c = line-read (nows c.args.words.now) c.args.kind TraceKind.Unwork _ c.in-Unwork.is (c.in-Ok-all1-8.ensures ∙ both-same c.name-in-Unwork.ensures refl)
+
+pub returns-in-Err-all1-8 : goal.returns-in-Err-all1-8
+returns-in-Err-all1-8 c = line-read (nows c.args.words.now) c.args.kind TraceKind.Unwork _ c.in-Unwork.is (c.in-Err-all1-8.ensures ∙ both-same c.name-in-Unwork.ensures refl)
+
 pub returns-in-Ok-stated : goal.returns-in-Ok-stated
 unfolding line_in
 returns-in-Ok-stated c = rw (c.in-Done.is, c.done.ensures) (ap (result_map (line_made TraceKind.Done)) (sym (sym c.stated.ensures ∙ c.in-Ok-stated.is)))

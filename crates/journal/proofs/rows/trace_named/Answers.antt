@@ -10,7 +10,7 @@ use Rattle.journal.proofs.rows.trace_named.Goals as goal
 pub loop-kind-preserved : goal.loop-kind-preserved
 loop-kind-preserved c =
     let ks = c.every_kind-kinds.result in
-    let len : length ks ≡ 18 = ap length c.every_kind-kinds.ensures ∙ kinds-count in
+    let len : length ks ≡ 20 = ap length c.every_kind-kinds.ensures ∙ kinds-count in
     let test = λ (k : TraceKind). bytes_eq (trace_word k) c.args.given.now in
     let e : test (get_or ks c.loop-kind.kind-index TraceKind.Run) ≡ false = rw (← c.trace_word.ensures, ← c.is_word.ensures) c.if-is_word.false in
     sym (find_on test ks c.loop-kind.kind-index TraceKind.Run (omega arith) e) ∙ c.loop-kind.invariant
@@ -19,7 +19,7 @@ pub returns-then-is_word : goal.returns-then-is_word
 unfolding trace_named
 returns-then-is_word c =
     let ks = c.every_kind-kinds.result in
-    let len : length ks ≡ 18 = ap length c.every_kind-kinds.ensures ∙ kinds-count in
+    let len : length ks ≡ 20 = ap length c.every_kind-kinds.ensures ∙ kinds-count in
     let test = λ (k : TraceKind). bytes_eq (trace_word k) c.args.given.now in
     let e : test (get_or ks c.loop-kind.kind-index TraceKind.Run) ≡ true = rw (← c.trace_word.ensures, ← c.is_word.ensures) c.if-is_word.true in
     sym (find_here test ks c.loop-kind.kind-index TraceKind.Run (omega arith) e) ∙ c.loop-kind.invariant ∙ ap (find test) c.every_kind-kinds.ensures
@@ -28,6 +28,6 @@ pub returns : goal.returns
 unfolding trace_named
 returns c =
     let ks = c.every_kind-kinds.result in
-    let len : length ks ≡ 18 = ap length c.every_kind-kinds.ensures ∙ kinds-count in
+    let len : length ks ≡ 20 = ap length c.every_kind-kinds.ensures ∙ kinds-count in
     let test = λ (k : TraceKind). bytes_eq (trace_word k) c.args.given.now in
     sym (find_end test ks c.loop-kind.kind-index (omega arith)) ∙ c.loop-kind.invariant ∙ ap (find test) c.every_kind-kinds.ensures
