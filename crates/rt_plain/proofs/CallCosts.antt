@@ -537,3 +537,10 @@ outcome-cost b s (Call.PmRelease mode) by attempt has = pm_release-cost s mode
 outcome-cost b s (Call.PmRun mode) by attempt has = silent s (record s { run_mode = mode }) (other-costs s (record s { run_mode = mode }) refl refl refl refl refl refl refl refl refl refl)
 outcome-cost b s (Call.MpAlloc name timeout) by attempt has = mp_alloc-cost s name timeout by
 outcome-cost b s (Call.MpFree name) by attempt has = mp_free-cost s name by
+
+most-two : (by : By) → most by ≤ 2
+most-two (ByThread t core) = omega arith
+most-two (ByTimer name) = omega arith
+
+pub call-numbers : (b : PlainBoard) (s : State) (call : Call) (by : By) (attempt : Attempt) → HasFew b → (outcome_of b call s by attempt).effect.state.numbers ≤ s.numbers + 2
+call-numbers b s call by attempt has = omega (arith, (outcome-cost b s call by attempt has).numbers, most-two by)

@@ -157,6 +157,10 @@ fire-lines b s row has waits may =
     let costs : Costs free fired 2 = alarm-cost b free row.alarm (row-waits s row.alarm waits) has in
     omega (arith, settled-lines b s fired, costs.stays.threads, alarm-few b free row.alarm (recursion_from_All (λ (timer : Timer). IsTrue (is_timer_action timer.call)) s.timers may))
 
+-- a row that fires takes the numbers of what it does
+pub fire-numbers : (b : PlainBoard) (s : State) (row : ArmedRow Alarm) → HasFew b → IsWaitedFor s row.alarm → (fired_row_effect b row s).state.numbers ≤ s.numbers + 2
+fire-numbers b s row has waits = (alarm-cost b (without_alarm s row.alarm) row.alarm (row-waits s row.alarm waits) has).numbers
+
 -- an arrival shows its line, and one that wakes
 released-one : (s : State) (sem : Sem) (o : Option ℕ) → length (sem_release_outcome sem o s).effect.lines ≤ 1
 released-one s sem (Some t) = omega arith
