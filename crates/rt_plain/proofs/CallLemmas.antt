@@ -1,25 +1,29 @@
 -- Each call keeps what holds of a state.
-use Rattle.std.proofs.Common.{◌≡◌, ◌+◌, ◌-◌, ◌≤◌, ◌<◌, ℕ, zero, suc, List, Option, Some, None, Bool, true, false, not, eqb, nat_lt, refl, ap, subst, arith, ltb-true, leb-false, eqb-true, if◌then◌else◌}
+use Rattle.std.proofs.Common.{◌≡◌, ◌+◌, ◌-◌, ◌≤◌, ◌<◌, ℕ, zero, suc, List, Option, Some, None, Bool, true, false, not, ◌&&◌, eqb, nat_lt, refl, ap, subst, arith, ltb-true, leb-true, leb-false, eqb-true, if◌then◌else◌}
 use Rattle.rt_base.specs.declared.codes.Code.{Code}
 use Rattle.rt_plain.specs.declared.stmt.Call.{Call}
 use Rattle.rt_plain.specs.State.{State, Stage, Initial, Active, Waiting, Suspended, Closed, Awaited, InCall, Nest, thread_at, find_thread, running_on, is_initial, is_closed, is_among, is_nest_of}
 use Rattle.rt_plain.specs.Outcome.{By, ByThread, ByTimer, Attempt, First, Again, Outcome, refusal, with_value, with_text, may_not_wait, wait_outcome, first_wait_outcome, is_past, repeated_wait_outcome, wait_or_refusal, missing_outcome, found_outcome}
-use Rattle.rt_plain.specs.Statements.{is_shell}
 use Rattle.rt_plain.specs.ThreadCalls.{delay, yield, startup, suspend, may_suspend, resume, resume_outcome, kill, set_prio, lock, lock_outcome, nest_at, unlock, unlock_outcome, with_locks, sched_lock, sched_unlock}
-use Rattle.rt_plain.specs.Sound.{is_active, is_waiting, is_timed_call}
+use Rattle.rt_plain.specs.Sound.{is_active, is_waiting, is_span, is_timeout, is_timed_call}
 use Rattle.rt_plain.proofs.TallyLemmas.{tally, tally-among}
-use Rattle.rt_plain.proofs.Invariant.{Frame, Kept, parts, is_fine_awaited, IsNestRun, IsOffNest, fine-at, thread-kept, running-active, placed-active, off-nest, off-core, active-kept, waiting-kept, suspended-kept}
+use Rattle.rt_plain.proofs.Invariant.{Frame, Kept, parts, is_fine_awaited, IsNear, IsAhead, is_scriptless, IsNestRun, IsOffNest, fine-at, thread-kept, running-active, placed-active, off-nest, off-core, active-kept, waiting-kept, suspended-kept}
 use Rattle.rt_plain.proofs.WakeLemmas.{wake-kept, close-kept}
-use Rattle.rt_plain.proofs.TestLemmas.{not-false, or-right, some-is}
+use Rattle.rt_plain.proofs.TestLemmas.{and-left, and-right, not-false, or-right, some-is}
 
 -- what an outcome keeps
 abbrev pub KeptOutcome : Frame → Outcome → Type 0
 KeptOutcome f outcome = Kept f outcome.effect.state
 
--- who makes the call: a thread on its core, which isn't the shell's
+-- who makes the call: a thread with a script, on its core
 abbrev pub IsBy : Frame → State → By → Type 0
-IsBy f s (ByThread t core) = (running_on s core ≡ Some t) × (is_shell f.board t ≡ false)
+IsBy f s (ByThread t core) = (running_on s core ≡ Some t) × (is_scriptless f.board t ≡ false)
 IsBy f s (ByTimer name) = Unit {0}
+
+-- a call that is made again had its first due moment no further ahead than a row may be
+abbrev pub IsAttempt : Frame → Attempt → Type 0
+IsAttempt f First = Unit {0}
+IsAttempt f (Again due) = IsNear f.now due
 
 pub if-outcome : (f : Frame) (c : Bool) (x y : Outcome) → (c ≡ true → KeptOutcome f x) → (c ≡ false → KeptOutcome f y) → KeptOutcome f (if c then x else y)
 if-outcome f true x y yes_case no_case = yes_case refl
@@ -42,31 +46,35 @@ text-kept f s (ByThread t core) text kept = thread-kept f s t (record (thread_at
 text-kept f s (ByTimer name) text kept = kept
 
 -- a caller that may wait waits
-pub wait-kept : (f : Frame) (s : State) (t core : ℕ) (what : Awaited) (due : Option ℕ) → running_on s core ≡ Some t → is_fine_awaited what ≡ true → ((d : ℕ) → due ≡ Some d → f.now < d) → Kept f s → KeptOutcome f (wait_outcome s t core what due)
-wait-kept f s t core what due runs fine later kept =
-    if-outcome f (may_not_wait s t core) (refusal s Code.Error) _ (λ is. kept) (λ is. waiting-kept f s t core what due runs (off-nest f s core t kept runs (or-right _ (is_nest_of core s.nest) is)) fine f.fits later kept)
+pub wait-kept : (f : Frame) (s : State) (t core : ℕ) (what : Awaited) (due : Option ℕ) → running_on s core ≡ Some t → is_fine_awaited what ≡ true → IsAhead f.now due → Kept f s → KeptOutcome f (wait_outcome s t core what due)
+wait-kept f s t core what due runs fine ahead kept =
+    if-outcome f (may_not_wait s t core) (refusal s Code.Error) _ (λ is. kept) (λ is. waiting-kept f s t core what due runs (off-nest f s core t kept runs (or-right _ (is_nest_of core s.nest) is)) fine ahead kept)
 
-first_wait-kept : (f : Frame) (s : State) (t core : ℕ) (call : Call) (timeout : Option ℕ) (code : Code) → running_on s core ≡ Some t → is_timed_call call ≡ true → Kept f s → KeptOutcome f (first_wait_outcome s t core call timeout code)
-first_wait-kept f s t core call None code runs fine kept = wait-kept f s t core (InCall call) None runs fine (λ d is. absurd cc) kept
-first_wait-kept f s t core call (Some zero) code runs fine kept = kept
-first_wait-kept f s t core call (Some (suc n)) code runs fine kept = wait-kept f s t core (InCall call) (Some (s.tick + suc n)) runs fine (λ d is. omega (arith, some-is (s.tick + suc n) d is, kept.tick_is)) kept
+-- so many ticks from now
+span-ahead : (f : Frame) (s : State) (ticks : ℕ) → 1 ≤ ticks → is_span ticks ≡ true → Kept f s → IsAhead f.now (Some (s.moment + ticks))
+span-ahead f s ticks some short kept d is = let same : s.moment + ticks ≡ d = some-is (s.moment + ticks) d is in (omega (arith, same, some, kept.moment_is), omega (arith, same, leb-true ticks 2147483647 short, kept.moment_is))
 
-past-later : (tick : ℕ) (due : Option ℕ) (d : ℕ) → is_past tick due ≡ false → due ≡ Some d → tick < d
-past-later tick None d is some = absurd cc
-past-later tick (Some e) d is some = let same : e ≡ d = some-is e d some in omega (arith, leb-false e tick is, same)
+first_wait-kept : (f : Frame) (s : State) (t core : ℕ) (call : Call) (timeout : Option ℕ) (code : Code) → running_on s core ≡ Some t → is_timed_call call ≡ true → is_timeout timeout ≡ true → Kept f s → KeptOutcome f (first_wait_outcome s t core call timeout code)
+first_wait-kept f s t core call None code runs fine timed kept = wait-kept f s t core (InCall call) None runs fine (λ d is. absurd cc) kept
+first_wait-kept f s t core call (Some zero) code runs fine timed kept = kept
+first_wait-kept f s t core call (Some (suc n)) code runs fine timed kept = wait-kept f s t core (InCall call) (Some (s.moment + suc n)) runs fine (span-ahead f s (suc n) (omega arith) timed kept) kept
 
-repeated_wait-kept : (f : Frame) (s : State) (t core : ℕ) (call : Call) (due : Option ℕ) → running_on s core ≡ Some t → is_timed_call call ≡ true → Kept f s → KeptOutcome f (repeated_wait_outcome s t core call due)
-repeated_wait-kept f s t core call due runs fine kept =
-    if-outcome f (is_past s.tick due) (refusal s Code.Timeout) _ (λ is. kept) (λ is. wait-kept f s t core (InCall call) due runs fine (λ d some. omega (arith, past-later s.tick due d is some, kept.tick_is)) kept)
+past-later : (moment : ℕ) (due : Option ℕ) (d : ℕ) → is_past moment due ≡ false → due ≡ Some d → moment < d
+past-later moment None d is some = absurd cc
+past-later moment (Some e) d is some = let same : e ≡ d = some-is e d some in omega (arith, leb-false e moment is, same)
+
+repeated_wait-kept : (f : Frame) (s : State) (t core : ℕ) (call : Call) (due : Option ℕ) → running_on s core ≡ Some t → is_timed_call call ≡ true → IsNear f.now due → Kept f s → KeptOutcome f (repeated_wait_outcome s t core call due)
+repeated_wait-kept f s t core call due runs fine near kept =
+    if-outcome f (is_past s.moment due) (refusal s Code.Timeout) _ (λ is. kept) (λ is. wait-kept f s t core (InCall call) due runs fine (λ d some. (omega (arith, past-later s.moment due d is some, kept.moment_is), near d some)) kept)
 
 -- a call that can't be done now
-pub wait_or-kept : (f : Frame) (s : State) (by : By) (attempt : Attempt) (call : Call) (timeout : Option ℕ) (code : Code) → IsBy f s by → is_timed_call call ≡ true → Kept f s → KeptOutcome f (wait_or_refusal s by attempt call timeout code)
-wait_or-kept f s (ByThread t core) First call timeout code by fine kept = first_wait-kept f s t core call timeout code by.0 fine kept
-wait_or-kept f s (ByThread t core) (Again due) call timeout code by fine kept = repeated_wait-kept f s t core call due by.0 fine kept
-wait_or-kept f s (ByTimer name) attempt call timeout code by fine kept = kept
+pub wait_or-kept : (f : Frame) (s : State) (by : By) (attempt : Attempt) (call : Call) (timeout : Option ℕ) (code : Code) → IsBy f s by → IsAttempt f attempt → is_timed_call call ≡ true → is_timeout timeout ≡ true → Kept f s → KeptOutcome f (wait_or_refusal s by attempt call timeout code)
+wait_or-kept f s (ByThread t core) First call timeout code by tried fine timed kept = first_wait-kept f s t core call timeout code by.0 fine timed kept
+wait_or-kept f s (ByThread t core) (Again due) call timeout code by tried fine timed kept = repeated_wait-kept f s t core call due by.0 fine tried kept
+wait_or-kept f s (ByTimer name) attempt call timeout code by tried fine timed kept = kept
 
-pub delay-kept : (f : Frame) (s : State) (by : By) (ticks : ℕ) → IsBy f s by → nat_lt 0 ticks ≡ true → Kept f s → KeptOutcome f (delay ticks s by)
-delay-kept f s (ByThread t core) ticks by timed kept = wait-kept f s t core (InCall (Call.Delay ticks)) (Some (s.tick + ticks)) by.0 timed (λ d is. omega (arith, some-is (s.tick + ticks) d is, ltb-true 0 ticks timed, kept.tick_is)) kept
+pub delay-kept : (f : Frame) (s : State) (by : By) (ticks : ℕ) → IsBy f s by → nat_lt 0 ticks && is_span ticks ≡ true → Kept f s → KeptOutcome f (delay ticks s by)
+delay-kept f s (ByThread t core) ticks by timed kept = wait-kept f s t core (InCall (Call.Delay ticks)) (Some (s.moment + ticks)) by.0 timed (span-ahead f s ticks (ltb-true 0 ticks (and-left _ (is_span ticks) timed)) (and-right _ (is_span ticks) timed) kept) kept
 delay-kept f s (ByTimer name) ticks by timed kept = kept
 
 pub yield-kept : (f : Frame) (s : State) (by : By) → Kept f s → KeptOutcome f (yield s by)
@@ -117,13 +125,14 @@ set_prio-kept f s name prio kept = found-outcome f (find_thread s name) (refusal
 -- the lock over all cores is held otherwise
 nest-kept : (f : Frame) (s : State) (nest : Option Nest) → IsNestRun f.board s.running nest → Kept f s → Kept f (record s { nest = nest })
 nest-kept f s nest runs kept = record {
-  tick_is = kept.tick_is;
+  moment_is = kept.moment_is;
   live = kept.live;
   ends = kept.ends;
   count = kept.count;
   cores = kept.cores;
   placed = kept.placed;
   rows = kept.rows;
+  bounded = kept.bounded;
   due_few = kept.due_few;
   single = kept.single;
   owned = kept.owned;
@@ -133,10 +142,10 @@ nest-kept f s nest runs kept = record {
 }
 
 -- the lock over all cores is held by this core
-held-runs : (f : Frame) (s : State) (m : Nest) → (r : ℕ) × (running_on s m.core ≡ Some r) × (is_shell f.board r ≡ false) → IsNestRun f.board s.running (Some m)
-held-runs f s m runs n is = subst (λ (x : Nest). (r : ℕ) × (running_on s x.core ≡ Some r) × (is_shell f.board r ≡ false)) (some-is m n is) runs
+held-runs : (f : Frame) (s : State) (m : Nest) → (r : ℕ) × (running_on s m.core ≡ Some r) × (is_scriptless f.board r ≡ false) → IsNestRun f.board s.running (Some m)
+held-runs f s m runs n is = subst (λ (x : Nest). (r : ℕ) × (running_on s x.core ≡ Some r) × (is_scriptless f.board r ≡ false)) (some-is m n is) runs
 
-locked-kept : (f : Frame) (s : State) (t core : ℕ) (nest : Option Nest) → running_on s core ≡ Some t → is_shell f.board t ≡ false → s.nest ≡ nest → Kept f s → KeptOutcome f (lock_outcome core nest s)
+locked-kept : (f : Frame) (s : State) (t core : ℕ) (nest : Option Nest) → running_on s core ≡ Some t → is_scriptless f.board t ≡ false → s.nest ≡ nest → Kept f s → KeptOutcome f (lock_outcome core nest s)
 locked-kept f s t core None runs other is kept = nest-kept f s (Some (record { core = core; depth = 1 })) (held-runs f s (record { core = core; depth = 1 }) (t, runs, other)) kept
 locked-kept f s t core (Some n) runs other is kept = if-outcome f (eqb n.depth 255) (refusal s Code.Full) _ (λ full. kept) (λ room. nest-kept f s (Some (record { core = n.core; depth = n.depth + 1 })) (held-runs f s (record { core = n.core; depth = n.depth + 1 }) (kept.nest_runs n is)) kept)
 
@@ -144,11 +153,11 @@ pub lock-kept : (f : Frame) (s : State) (by : By) → IsBy f s by → Kept f s �
 lock-kept f s (ByThread t core) by kept = locked-kept f s t core s.nest by.0 by.1 refl kept
 lock-kept f s (ByTimer name) by kept = kept
 
-nest_at-runs : (f : Frame) (s : State) (t core depth : ℕ) → running_on s core ≡ Some t → is_shell f.board t ≡ false → IsNestRun f.board s.running (nest_at core depth)
+nest_at-runs : (f : Frame) (s : State) (t core depth : ℕ) → running_on s core ≡ Some t → is_scriptless f.board t ≡ false → IsNestRun f.board s.running (nest_at core depth)
 nest_at-runs f s t core zero runs other n is = absurd cc
 nest_at-runs f s t core (suc depth) runs other n is = held-runs f s (record { core = core; depth = suc depth }) (t, runs, other) n is
 
-unlocked-kept : (f : Frame) (s : State) (t core : ℕ) (nest : Option Nest) → running_on s core ≡ Some t → is_shell f.board t ≡ false → Kept f s → KeptOutcome f (unlock_outcome core nest s)
+unlocked-kept : (f : Frame) (s : State) (t core : ℕ) (nest : Option Nest) → running_on s core ≡ Some t → is_scriptless f.board t ≡ false → Kept f s → KeptOutcome f (unlock_outcome core nest s)
 unlocked-kept f s t core None runs other kept = kept
 unlocked-kept f s t core (Some n) runs other kept = if-outcome f (eqb n.core core) _ (refusal s Code.Error) (λ own. nest-kept f s (nest_at core (n.depth - 1)) (nest_at-runs f s t core (n.depth - 1) runs other) kept) (λ other_core. kept)
 

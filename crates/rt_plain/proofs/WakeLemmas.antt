@@ -1,18 +1,18 @@
 -- Who waits on an object, and that waking and ending threads keeps what holds.
-use Rattle.std.proofs.Common.{◌≡◌, ◌≢◌, ◌+◌, ◌≤◌, ◌∷◌, [], ℕ, zero, suc, List, Option, Some, None, Bool, true, false, is_some, cond, length, refl, sym, ap, ◌∙◌, subst, arith, slice_set, map, if◌then◌else◌, filter_map}
+use Rattle.std.proofs.Common.{◌≡◌, ◌≢◌, ◌+◌, ◌≤◌, ◌∷◌, [], ℕ, zero, suc, List, Option, Some, None, Bool, true, false, is_some, cond, option_map, length, refl, sym, ap, ◌∙◌, subst, arith, slice_set, map, if◌then◌else◌, filter_map}
 use Rattle.std.specs.List.{AllByRecursion, range_with_len, find, cons_option}
 use Rattle.rt_base.specs.declared.codes.Code.{Code}
 use Rattle.rt_base.specs.declared.codes.WaitOrder.{WaitOrder}
 use Rattle.rt_plain.specs.declared.stmt.Call.{Call}
-use Rattle.rt_plain.specs.State.{State, Stage, Waiting, Thread, OfThread, no_thread, thread_at, thread_numbers, with_thread}
-use Rattle.rt_plain.specs.Effects.{Effect, each_effect, wake_effect, retry_of, retry_wake_effect, effect_for, due_of}
+use Rattle.rt_plain.specs.State.{State, Stage, Waiting, Thread, Alarm, OfThread, ArmedRow, no_thread, thread_at, thread_numbers, with_thread}
+use Rattle.rt_plain.specs.Effects.{Effect, each_effect, wake_effect, retry_of, retry_wake_effect, effect_for, due_of, is_alarm}
 use Rattle.rt_plain.specs.Waiting.{Waiter, stands_before, put_in_order, in_order, head_of, number_in, waiter_of, wait_rows, waiters, first_waiter, takes_mutex}
 use Rattle.rt_plain.specs.Owners.{with_owner, pass_effect, give_back_effect, mutexes_of, close_effect}
 use Rattle.rt_plain.specs.DeviceCalls.{waits_at_console, console_waiter}
 use Rattle.rt_plain.specs.Works.{waits_for_work, work_waiter}
 use Rattle.rt_plain.specs.Sound.{is_waiting}
-use Rattle.rt_plain.proofs.TallyLemmas.{all-weaker, all-map, same-set, other-set}
-use Rattle.rt_plain.proofs.Invariant.{Frame, Kept, stage_at, is_fine_stage, is_fine_retry, fine-at, thread-kept, waiting-open, waiting-inactive, active-kept, withdrawn-kept}
+use Rattle.rt_plain.proofs.TallyLemmas.{all-weaker, all-map, all-found, same-set, other-set}
+use Rattle.rt_plain.proofs.Invariant.{Frame, Kept, stage_at, is_fine_stage, IsNear, IsFineRetry, IsRowBounded, fine-at, thread-kept, waiting-open, waiting-inactive, active-kept, withdrawn-kept}
 use Rattle.rt_plain.proofs.TestLemmas.{some-is}
 
 -- a thread that waits wakes with a code
@@ -24,13 +24,20 @@ wake-kept f s code t waits kept = active-kept f coded t (waiting-inactive (threa
   still : is_waiting (thread_at coded t).stage ≡ true
   still = ap is_waiting (same-set (λ (r : Thread). r.stage) s.threads t t (record (thread_at s t) { code = code }) no_thread refl) ∙ waits
 
-retry-fine : (stage : Stage) (due : Option ℕ) → is_fine_stage stage ≡ true → is_fine_retry (retry_of stage due) ≡ true
-retry-fine (Waiting what number) due fine = fine
-retry-fine _ due fine = refl
+-- an armed row is no further ahead than it may be
+due-near : (f : Frame) (s : State) (alarm : Alarm) → Kept f s → IsNear f.now (due_of s alarm)
+due-near f s alarm kept = by_found (find (λ (r : ArmedRow Alarm). is_alarm alarm r.alarm) s.armed) refl where
+  by_found : (o : Option (ArmedRow Alarm)) → find (λ (r : ArmedRow Alarm). is_alarm alarm r.alarm) s.armed ≡ o → IsNear f.now (option_map (λ (r : ArmedRow Alarm). r.due) o)
+  by_found None is d some = absurd cc
+  by_found (Some row) is d some = subst (λ n. n ≤ f.now + 2147483647) (some-is row.due d some) (all-found (IsRowBounded f.now s.numbers) (λ (r : ArmedRow Alarm). is_alarm alarm r.alarm) s.armed row is kept.bounded).0
+
+retry-fine : (now : ℕ) (stage : Stage) (due : Option ℕ) → is_fine_stage stage ≡ true → IsNear now due → IsFineRetry now (retry_of stage due)
+retry-fine now (Waiting what number) due fine near = (fine, near)
+retry-fine now _ due fine near = tt
 
 -- a thread that waits wakes to make its call again
 pub retry_wake-kept : (f : Frame) (s : State) (t : ℕ) → is_waiting (thread_at s t).stage ≡ true → Kept f s → Kept f (retry_wake_effect t s).state
-retry_wake-kept f s t waits kept = active-kept f told t (waiting-inactive (thread_at told t).stage still) (waiting-open (thread_at told t).stage still) (thread-kept f s t row refl ((fine-at f s t kept).0, retry-fine (thread_at s t).stage (due_of s (OfThread t)) (fine-at f s t kept).0, (fine-at f s t kept).2) kept) where
+retry_wake-kept f s t waits kept = active-kept f told t (waiting-inactive (thread_at told t).stage still) (waiting-open (thread_at told t).stage still) (thread-kept f s t row refl ((fine-at f s t kept).0, retry-fine f.now (thread_at s t).stage (due_of s (OfThread t)) (fine-at f s t kept).0 (due-near f s (OfThread t) kept), (fine-at f s t kept).2) kept) where
   row : Thread
   row = record (thread_at s t) { retry = retry_of (thread_at s t).stage (due_of s (OfThread t)) }
 
