@@ -7,6 +7,9 @@ use Rattle.rt_base.specs.declared.codes.Class.{Class}
 use Rattle.rt_base.specs.declared.codes.Sleep.{Sleep}
 use Rattle.rt_base.specs.declared.codes.WaitOrder.{WaitOrder}
 use Rattle.rt_plain.specs.declared.stmt.Call.{Call}
+use Rattle.rt_plain.specs.declared.stmt.Stmt.{Stmt}
+use Rattle.rt_plain.specs.declared.board.TimerKind.{TimerKind}
+use Rattle.rt_plain.specs.declared.line.Fired.{Fired}
 use Rattle.rt_plain.specs.PlainBoard.{PlainBoard}
 use Rattle.rt_plain.specs.State.{State, Stage, Waiting, InCall, Thread, Timer, OfTimer, Sem, EventObj, Holding, Mailbox, MsgQueue, Pool, Device, thread_at, with_thread, no_thread, Alarm, ArmedRow, OfThread}
 use Rattle.rt_plain.specs.declared.line.Line.{Line}
@@ -26,10 +29,11 @@ use Rattle.rt_plain.specs.TimerCalls.{find_timer, with_timer, with_timer_armed, 
 use Rattle.rt_plain.specs.DeviceCalls.{find_device, with_device, is_open, dev_open, may_close, dev_close, dev_read, write_effect, dev_write, dev_ctl}
 use Rattle.rt_plain.specs.PowerCalls.{votes_for, pm_request, pm_release}
 use Rattle.rt_plain.specs.Calls.{outcome_of}
-use Rattle.rt_plain.specs.Sound.{is_waiting, is_span, is_timeout, is_timed_call}
+use Rattle.rt_plain.specs.Due.{with_period, timer_effect, timer_action_effect}
+use Rattle.rt_plain.specs.Sound.{is_waiting, is_span, is_timeout, is_timed_call, is_timed_action}
 use Rattle.rt_plain.proofs.TallyLemmas.{all-weaker, all-filter, all-append, all-map, all-found, same-set, other-set, one_if, tally, tally-filter, tally-dropped}
 use Rattle.rt_plain.proofs.Invariant.{Frame, Kept, stage_at, IsAhead, is_work_of, is_owned, IsOwned, IsFineTimer, fine-at, thread-kept, without_alarm-kept, with_alarm-kept, works-kept}
-use Rattle.rt_plain.proofs.WakeLemmas.{wake-kept, retry_wake-kept, wake-others, IsListed, AllApart, apart-map, waiters-listed, waiters-apart, waiters-wait, first-waits, each-wakes, for-kept, give_back-kept}
+use Rattle.rt_plain.proofs.WakeLemmas.{wake-kept, retry_wake-kept, wake-others, IsListed, AllApart, apart-map, waiters-listed, waiters-apart, waiters-wait, first-waits, each-wakes, for-kept, give_back-kept, found-passes}
 use Rattle.rt_plain.proofs.CallLemmas.{KeptOutcome, IsBy, IsAttempt, if-outcome, found-outcome, missing-kept, value-kept, text-kept, wait_or-kept, delay-kept, yield-kept, startup-kept, suspend-kept, resume-kept, kill-kept, set_prio-kept, lock-kept, unlock-kept, sched_lock-kept, sched_unlock-kept}
 use Rattle.rt_plain.proofs.TestLemmas.{and-left, and-right, or-left, or-right, or-second, some-is}
 
@@ -382,3 +386,23 @@ outcome-kept f b s (Call.PmRelease mode) by attempt timed is tried kept = pm_rel
 outcome-kept f b s (Call.PmRun mode) by attempt timed is tried kept = kept
 outcome-kept f b s (Call.MpAlloc name timeout) by attempt timed is tried kept = mp_alloc-kept f s name timeout by is timed kept
 outcome-kept f b s (Call.MpFree name) by attempt timed is tried kept = mp_free-kept f s name by kept
+
+-- what a timer does
+period-kept : (f : Frame) (s : State) (kind : TimerKind) (timer : Timer) → IsFineTimer f.board timer → is_owned s.timers (OfTimer timer.name) ≡ true → tally (is_work_of (OfTimer timer.name)) s.works ≡ 0 → Kept f s → Kept f (with_period kind timer s)
+period-kept f s TimerKind.OneShot timer fine owner idle kept = kept
+period-kept f s TimerKind.Periodic timer fine owner idle kept = armed-kept f s timer fine owner idle kept
+period-kept f s TimerKind.SoftOne timer fine owner idle kept = kept
+period-kept f s TimerKind.SoftPer timer fine owner idle kept = armed-kept f s timer fine owner idle kept
+
+called-kept : (f : Frame) (s : State) (line : Fired → Line) (name : List ℕ) (action : Option Stmt) → is_timed_action action ≡ true → Kept f s → Kept f (timer_effect f.board line name action s).state
+called-kept f s line name None timed kept = kept
+called-kept f s line name (Some (Stmt.Print text)) timed kept = kept
+called-kept f s line name (Some (Stmt.Do call)) timed kept = outcome-kept f f.board s call (ByTimer name) First timed tt tt kept
+called-kept f s line name (Some _) timed kept = kept
+
+pub action-kept : (f : Frame) (s : State) (line : Fired → Line) (timer : Timer) → IsFineTimer f.board timer → is_owned s.timers (OfTimer timer.name) ≡ true → tally (is_work_of (OfTimer timer.name)) s.works ≡ 0 → Kept f s → Kept f (timer_action_effect f.board line timer s).state
+action-kept f s line timer fine owner idle kept = called-kept f (with_period timer.kind timer s) line timer.name timer.call fine.2 (period-kept f s timer.kind timer fine owner idle kept)
+
+-- the timer of a name has that name
+pub found-name : (s : State) (name : List ℕ) (timer : Timer) → find_timer s name ≡ Some timer → timer.name ≡ name
+found-name s name timer is = (bytes_eq-Decides timer.name name).0 (found-passes (λ (o : Timer). bytes_eq o.name name) s.timers timer is)

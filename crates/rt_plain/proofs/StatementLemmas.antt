@@ -2,27 +2,30 @@
 use Rattle.std.proofs.Common.{◌≡◌, inl, inr, ◌+◌, ◌-◌, ◌∷◌, [], ℕ, zero, suc, List, Option, Some, None, Bool, true, false, eqb, refl, sym, ◌∙◌, subst, slice_get, unwrap_or, option_map, if◌then◌else◌, bytes_eq, ◌≤◌, length, slice_set, arith, ap, ◌<◌, ◌⊎◌, inl, inr}
 use Rattle.std.specs.List.{find, list_any, list_all, before_first, after_first}
 use Rattle.std.proofs.lemmas.List.Elements.{recursion_from_All}
+use Rattle.std.proofs.lemmas.Slice.Eq.{bytes_eq-Decides}
 use Rattle.rt_base.specs.declared.codes.Code.{Code}
 use Rattle.rt_base.specs.Codes.{code_number}
 use Rattle.rt_plain.specs.declared.line.Line.{Line}
 use Rattle.rt_plain.specs.declared.board.ThreadDef.{ThreadDef}
 use Rattle.rt_plain.specs.declared.stmt.Stmt.{Stmt}
 use Rattle.rt_plain.specs.PlainBoard.{PlainBoard}
-use Rattle.rt_plain.specs.State.{State, Awaited, InCall, AtConsole, Retry, Thread, Device, thread_at, with_thread, running_on, no_thread, Closed}
-use Rattle.rt_plain.specs.Effects.{Effect}
+use Rattle.rt_plain.specs.State.{State, Awaited, InCall, AtConsole, AtWorks, Retry, Thread, Timer, Device, Alarm, OfTimer, thread_at, with_thread, running_on, no_thread, Closed}
+use Rattle.rt_plain.specs.Effects.{Effect, no_effect}
 use Rattle.rt_plain.specs.Outcome.{ByThread, First, Again, Answer, Answers, Waits, Outcome}
 use Rattle.rt_plain.specs.Calls.{outcome_of, settled_effect}
 use Rattle.rt_plain.specs.Shell.{longer_line, prompt_effect, turn_effect, reading_effect, line_read_effect, shell_effect, console_bytes, with_received, with_console_bytes, console_name, is_newline}
 use Rattle.rt_plain.specs.DeviceCalls.{find_device}
-use Rattle.rt_plain.specs.Statements.{script_of, statement_at, is_shell, with_next, print_effect, said_text, with_counter, plain_effect, with_answer, call_effect, done_effect, next_statement_effect, repeated_call_effect, script_effect, statement_effect, target}
+use Rattle.rt_plain.specs.Statements.{script_of, statement_at, is_shell, is_soft_thread, with_next, print_effect, said_text, with_counter, plain_effect, with_answer, call_effect, done_effect, next_statement_effect, repeated_call_effect, script_effect, thread_effect, statement_effect, target}
+use Rattle.rt_plain.specs.TimerCalls.{find_timer}
+use Rattle.rt_plain.specs.SoftTurn.{work_effect, soft_turn_effect, soft_effect}
 use Rattle.rt_plain.specs.Sound.{is_timed, IsProper}
 use Rattle.rt_plain.specs.Owners.{close_effect, withdrawn_state, give_back_effect, mutexes_of}
-use Rattle.rt_plain.proofs.TallyLemmas.{all-found, same-set, le_or_lt, past-end, length-set_at, here-set}
-use Rattle.rt_plain.proofs.Invariant.{Frame, Kept, parts, is_fine_retry, is_fine_awaited, IsOffNest, fine-at, thread-kept, waiting-kept, reordered-kept, withdrawn-kept}
+use Rattle.rt_plain.proofs.TallyLemmas.{one_if, tally, all-found, same-set, le_or_lt, past-end, length-set_at, here-set}
+use Rattle.rt_plain.proofs.Invariant.{Frame, Kept, parts, is_fine_awaited, IsNear, IsFineRetry, is_scriptless, is_work_of, standings, IsOffNest, fine-at, thread-kept, waiting-kept, reordered-kept, withdrawn-kept, works-kept}
 use Rattle.rt_plain.proofs.WakeLemmas.{close-kept, each-kept, give_back-kept}
 use Rattle.rt_plain.proofs.CallLemmas.{KeptOutcome, IsBy}
-use Rattle.rt_plain.proofs.ObjectLemmas.{outcome-kept}
-use Rattle.rt_plain.proofs.TestLemmas.{and-left, and-right, some-is}
+use Rattle.rt_plain.proofs.ObjectLemmas.{outcome-kept, action-kept, found-timer, found-owner, found-name}
+use Rattle.rt_plain.proofs.TestLemmas.{and-left, and-right, or-first, or-second, clash, some-is}
 
 -- a choice of states
 pub if-state : (f : Frame) (c : Bool) (x y : State) → Kept f x → Kept f y → Kept f (if c then x else y)
@@ -64,7 +67,7 @@ called-kept : (f : Frame) (t : ℕ) (line : Option Code → Line) (outcome : Out
 called-kept f t line outcome kept = answer-kept f outcome.effect.state t outcome.answer kept
 
 done-kept : (f : Frame) (s : State) (t core : ℕ) (name : List ℕ) (k : ℕ) (stmt : Stmt) → length (script_of f.board name) ≡ length (script_of f.board (thread_at s t).name) → is_timed stmt ≡ true → IsBy f s (ByThread t core) → Kept f s → Kept f (done_effect f.board t core name k stmt s).state
-done-kept f s t core name k (Stmt.Do call) same timed by kept = called-kept f t (Line.Done name k) (outcome_of f.board call s (ByThread t core) First) (outcome-kept f f.board s call (ByThread t core) First timed by kept)
+done-kept f s t core name k (Stmt.Do call) same timed by kept = called-kept f t (Line.Done name k) (outcome_of f.board call s (ByThread t core) First) (outcome-kept f f.board s call (ByThread t core) First timed by tt kept)
 done-kept f s t core name k (Stmt.Print text) same timed by kept = plain-kept f (script_of f.board name) s t (Stmt.Print text) same kept
 done-kept f s t core name k (Stmt.Say what) same timed by kept = plain-kept f (script_of f.board name) s t (Stmt.Say what) same kept
 done-kept f s t core name k (Stmt.Goto n) same timed by kept = plain-kept f (script_of f.board name) s t (Stmt.Goto n) same kept
@@ -113,7 +116,7 @@ ended-kept f s t k kept = each-kept f give_back_effect (λ mutex u held. give_ba
   closed = closed_at (le_or_lt (length s.threads) t)
 
   twice : Kept f (with_thread (withdrawn_state s t) t last)
-  twice = thread-kept f (withdrawn_state s t) t last closed (refl, refl, λ is. absurd cc) (withdrawn-kept f s t kept)
+  twice = thread-kept f (withdrawn_state s t) t last closed (refl, tt, λ is. absurd cc) (withdrawn-kept f s t kept)
 
   same : slice_set (slice_set s.threads t first) t last ≡ slice_set (slice_set s.threads t (record (thread_at s t) { next = k })) t last
   same = set-twice s.threads t first last ∙ sym (set-twice s.threads t (record (thread_at s t) { next = k }) last)
@@ -139,17 +142,18 @@ next_statement-kept f s t core proper by kept = by_place (le_or_lt row.next (len
   by_place (inr far) = subst (λ (stmt : Stmt). Kept f (done_effect f.board t core row.name row.next stmt (with_next s t (row.next + 1))).state) (sym (past (omega (arith, far)))) (ended-kept f s t (row.next + 1) kept)
 
 unretried-kept : (f : Frame) (s : State) (t : ℕ) → Kept f s → Kept f (with_thread s t (record (thread_at s t) { retry = None }))
-unretried-kept f s t kept = thread-kept f s t (record (thread_at s t) { retry = None }) refl ((fine-at f s t kept).0, refl, (fine-at f s t kept).2) kept
+unretried-kept f s t kept = thread-kept f s t (record (thread_at s t) { retry = None }) refl ((fine-at f s t kept).0, tt, (fine-at f s t kept).2) kept
 
-repeated-kept : (f : Frame) (s : State) (t core : ℕ) (retry : Retry) (what : Awaited) → is_fine_awaited what ≡ true → IsBy f s (ByThread t core) → Kept f s → Kept f (repeated_call_effect f.board t core retry what s).state
-repeated-kept f s t core retry AtConsole fine by kept = kept
-repeated-kept f s t core retry (InCall call) fine by kept =
+repeated-kept : (f : Frame) (s : State) (t core : ℕ) (retry : Retry) (what : Awaited) → is_fine_awaited what ≡ true → IsNear f.now retry.due → IsBy f s (ByThread t core) → Kept f s → Kept f (repeated_call_effect f.board t core retry what s).state
+repeated-kept f s t core retry AtConsole fine near by kept = kept
+repeated-kept f s t core retry AtWorks fine near by kept = kept
+repeated-kept f s t core retry (InCall call) fine near by kept =
     let free : State = with_thread s t (record (thread_at s t) { retry = None }) in
-    called-kept f t (Line.Again (thread_at s t).name ((thread_at s t).next - 1)) (outcome_of f.board call free (ByThread t core) (Again retry.due)) (outcome-kept f f.board free call (ByThread t core) (Again retry.due) fine by (unretried-kept f s t kept))
+    called-kept f t (Line.Again (thread_at s t).name ((thread_at s t).next - 1)) (outcome_of f.board call free (ByThread t core) (Again retry.due)) (outcome-kept f f.board free call (ByThread t core) (Again retry.due) fine by near (unretried-kept f s t kept))
 
-script-kept : (f : Frame) (s : State) (t core : ℕ) (retry : Option Retry) → is_fine_retry retry ≡ true → IsProper f.board → IsBy f s (ByThread t core) → Kept f s → Kept f (script_effect f.board t core retry s).state
+script-kept : (f : Frame) (s : State) (t core : ℕ) (retry : Option Retry) → IsFineRetry f.now retry → IsProper f.board → IsBy f s (ByThread t core) → Kept f s → Kept f (script_effect f.board t core retry s).state
 script-kept f s t core None fine timed by kept = next_statement-kept f s t core timed by kept
-script-kept f s t core (Some retry) fine timed by kept = repeated-kept f s t core retry retry.what fine by kept
+script-kept f s t core (Some retry) fine timed by kept = repeated-kept f s t core retry retry.what fine.0 fine.1 by kept
 
 -- the shell
 received-kept : (f : Frame) (o : Option Device) (rx : List ℕ) (s : State) → Kept f s → Kept f (with_received o rx s)
@@ -168,16 +172,11 @@ reading-kept f b bytes s kept = by_newline (list_any is_newline bytes) where
   by_newline true = received-kept f (find_device s console_name) (after_first is_newline bytes) s kept
   by_newline false = received-kept f (find_device s console_name) [] s kept
 
-shell-off : (f : Frame) (s : State) (t : ℕ) → is_shell f.board t ≡ true → Kept f s → IsOffNest (parts s) t
-shell-off f s t shell kept n is runs = clash (some-is (kept.nest_runs n is).0 t (sym (kept.nest_runs n is).1 ∙ runs)) where
-  apart : (c : Bool) → c ≡ true → c ≡ false → ⊥
-  apart c yes_case no_case = cc
-
-  clash : (kept.nest_runs n is).0 ≡ t → ⊥
-  clash e = apart (is_shell f.board t) shell (subst (λ r. is_shell f.board r ≡ false) e (kept.nest_runs n is).2)
+scriptless-off : (f : Frame) (s : State) (t : ℕ) → is_scriptless f.board t ≡ true → Kept f s → IsOffNest (parts s) t
+scriptless-off f s t other kept n is runs = clash (is_scriptless f.board t) other (subst (λ r. is_scriptless f.board r ≡ false) (some-is (kept.nest_runs n is).0 t (sym (kept.nest_runs n is).1 ∙ runs)) (kept.nest_runs n is).2)
 
 turned-kept : (f : Frame) (s : State) (t core : ℕ) (bytes : List ℕ) → running_on s core ≡ Some t → is_shell f.board t ≡ true → Kept f s → Kept f (turn_effect f.board t bytes s).state
-turned-kept f s t core [] runs shell kept = let free : State = with_thread s t (record (thread_at s t) { retry = None }) in waiting-kept f free t core AtConsole None runs (shell-off f free t shell (unretried-kept f s t kept)) refl f.fits (λ d is. absurd cc) (unretried-kept f s t kept)
+turned-kept f s t core [] runs shell kept = let free : State = with_thread s t (record (thread_at s t) { retry = None }) in waiting-kept f free t core AtConsole None runs (scriptless-off f free t (or-first (is_shell f.board t) _ shell) (unretried-kept f s t kept)) refl (λ d is. absurd cc) (unretried-kept f s t kept)
 turned-kept f s t core (byte ∷ bytes) runs shell kept = reading-kept f f.board (byte ∷ bytes) (with_thread s t (record (thread_at s t) { retry = None })) (unretried-kept f s t kept)
 
 pub if-effect : (f : Frame) (c : Bool) (x y : Effect) → (c ≡ true → Kept f x.state) → (c ≡ false → Kept f y.state) → Kept f (if c then x else y).state
@@ -188,10 +187,35 @@ shell-kept : (f : Frame) (s : State) (t core : ℕ) → running_on s core ≡ So
 shell-kept f s t core runs shell kept = if-effect f (eqb (thread_at s t).next 1) (prompt_effect t s) (turn_effect f.board t (console_bytes s) s)
     (λ first. thread-kept f s t (record (thread_at s t) { next = 2 }) refl ((fine-at f s t kept).0, (fine-at f s t kept).1, λ is. omega arith) kept) (λ later. turned-kept f s t core (console_bytes s) runs shell kept)
 
+-- the thread of soft timers
+worked-kept : (f : Frame) (s : State) (name : List ℕ) (o : Option Timer) → find_timer s name ≡ o → tally (is_work_of (OfTimer name)) s.works ≡ 0 → Kept f s → Kept f (work_effect f.board o s).state
+worked-kept f s name None is idle kept = kept
+worked-kept f s name (Some timer) is idle kept = action-kept f s (Line.Work timer.name) timer (found-timer f s name timer is kept) (found-owner s name timer is) (subst (λ (n : List ℕ). tally (is_work_of (OfTimer n)) s.works ≡ 0) (sym (found-name s name timer is)) idle) kept
+
+softly-kept : (f : Frame) (s : State) (t core : ℕ) (works : List (List ℕ)) → s.works ≡ works → running_on s core ≡ Some t → is_soft_thread f.board t ≡ true → Kept f s → Kept f (soft_turn_effect f.board t works s).state
+softly-kept f s t core [] is runs soft kept = let free : State = with_thread s t (record (thread_at s t) { retry = None }) in waiting-kept f free t core AtWorks None runs (scriptless-off f free t (or-second (is_shell f.board t) _ soft) (unretried-kept f s t kept)) refl (λ d is. absurd cc) (unretried-kept f s t kept)
+softly-kept f s t core (name ∷ names) is runs soft kept = worked-kept f left name (find_timer left name) refl idle (works-kept f free names fewer (unretried-kept f s t kept)) where
+  free : State
+  free = with_thread s t (record (thread_at s t) { retry = None })
+
+  left : State
+  left = record free { works = names }
+
+  before : (alarm : Alarm) → standings alarm (name ∷ names) s.armed ≤ 1
+  before alarm = subst (λ (works : List (List ℕ)). standings alarm works s.armed ≤ 1) is (kept.single alarm)
+
+  fewer : (alarm : Alarm) → standings alarm names s.armed ≤ 1
+  fewer alarm = omega (arith, before alarm)
+
+  idle : tally (is_work_of (OfTimer name)) names ≡ 0
+  idle = omega (arith, before (OfTimer name), ap one_if ((bytes_eq-Decides name name).1 refl))
+
 -- what follows from an action
 pub settled-kept : (f : Frame) (before : State) (e : Effect) → Kept f e.state → Kept f (settled_effect f.board before e).state
 settled-kept f before e kept = reordered-kept f before e.state kept
 
 pub statement-kept : (f : Frame) (s : State) (t core : ℕ) → IsProper f.board → running_on s core ≡ Some t → Kept f s → Kept f (statement_effect f.board t core s).state
-statement-kept f s t core timed runs kept = settled-kept f s (if is_shell f.board t then shell_effect f.board t s else script_effect f.board t core (thread_at s t).retry s) (if-effect f (is_shell f.board t) (shell_effect f.board t s) (script_effect f.board t core (thread_at s t).retry s)
-    (λ shell. shell-kept f s t core runs shell kept) (λ other. script-kept f s t core (thread_at s t).retry (fine-at f s t kept).1 timed (runs, other) kept))
+statement-kept f s t core timed runs kept = settled-kept f s (thread_effect f.board t core s) (if-effect f (is_shell f.board t) (shell_effect f.board t s) _ (λ shell. shell-kept f s t core runs shell kept)
+    (λ unshell. if-effect f (is_soft_thread f.board t) (soft_effect f.board t s) _ (λ soft. softly-kept f s t core s.works refl runs soft kept) (λ hard. script-kept f s t core (thread_at s t).retry (fine-at f s t kept).1 timed (runs, both unshell hard) kept))) where
+  both : is_shell f.board t ≡ false → is_soft_thread f.board t ≡ false → is_scriptless f.board t ≡ false
+  both unshell hard = rw unshell hard

@@ -143,7 +143,7 @@ console-waits : (stage : Stage) → waits_at_console stage ≡ true → is_waiti
 console-waits (Waiting what number) is = refl
 console-waits _ is = absurd cc
 
-found-passes : {X : Type 0} (q : X → Bool) (xs : List X) (x : X) → find q xs ≡ Some x → q x ≡ true
+pub found-passes : {X : Type 0} (q : X → Bool) (xs : List X) (x : X) → find q xs ≡ Some x → q x ≡ true
 found-passes q [] x is = absurd cc
 found-passes q (y ∷ ys) x is = by_test (q y) refl is (found-passes q ys x) where
   by_test : (c : Bool) → q y ≡ c → cond c (Some y) (find q ys) ≡ Some x → (find q ys ≡ Some x → q x ≡ true) → q x ≡ true
