@@ -217,5 +217,5 @@ settled-kept f before e kept = reordered-kept f before e.state kept
 pub statement-kept : (f : Frame) (s : State) (t core : ℕ) → IsProper f.board → running_on s core ≡ Some t → Kept f s → Kept f (statement_effect f.board t core s).state
 statement-kept f s t core timed runs kept = settled-kept f s (thread_effect f.board t core s) (if-effect f (is_shell f.board t) (shell_effect f.board t s) _ (λ shell. shell-kept f s t core runs shell kept)
     (λ unshell. if-effect f (is_soft_thread f.board t) (soft_effect f.board t s) _ (λ soft. softly-kept f s t core s.works refl runs soft kept) (λ hard. script-kept f s t core (thread_at s t).retry (fine-at f s t kept).1 timed (runs, both unshell hard) kept))) where
-  both : is_shell f.board t ≡ false → is_soft_thread f.board t ≡ false → is_scriptless f.board t ≡ false
-  both unshell hard = rw unshell hard
+      both : is_shell f.board t ≡ false → is_soft_thread f.board t ≡ false → is_scriptless f.board t ≡ false
+      both unshell hard = rw unshell hard

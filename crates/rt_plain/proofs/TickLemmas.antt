@@ -1,23 +1,24 @@
 -- A tick keeps what holds of a state: due rows fire, and none is left.
-use Rattle.std.proofs.Common.{◌≡◌, ◌≢◌, ◌+◌, ◌-◌, ◌≤◌, ◌∷◌, [], ℕ, zero, suc, List, Option, Some, None, Bool, true, false, not, cond, length, eqb, nat_lt, refl, sym, ap, ◌∙◌, subst, arith, eq-eqb, filter, if◌then◌else◌}
+use Rattle.std.proofs.Common.{◌≡◌, ◌≢◌, ◌+◌, ◌-◌, ◌≤◌, ◌∷◌, [], ◌++◌, ℕ, zero, suc, List, Option, Some, None, Bool, true, false, not, cond, length, eqb, nat_lt, refl, sym, ap, ◌∙◌, subst, arith, eq-eqb, filter, bytes_eq, if◌then◌else◌}
 use Rattle.std.specs.List.{AllByRecursion, fold}
 use Rattle.std.proofs.lemmas.Slice.Eq.{bytes_eq-Decides}
 use Rattle.rt_base.specs.declared.codes.Halt.{Halt}
-use Rattle.rt_plain.specs.declared.board.TimerKind.{TimerKind}
-use Rattle.rt_plain.specs.declared.stmt.Stmt.{Stmt}
+use Rattle.rt_plain.specs.declared.line.Line.{Line}
+use Rattle.rt_plain.specs.declared.line.Fired.{Fired}
 use Rattle.rt_plain.specs.PlainBoard.{PlainBoard}
 use Rattle.rt_plain.specs.State.{State, Thread, Timer, Device, Alarm, OfThread, OfTimer, ArmedRow, thread_at}
 use Rattle.rt_plain.specs.Effects.{is_alarm, without_alarm, retry_wake_effect}
-use Rattle.rt_plain.specs.Outcome.{ByTimer, First}
+use Rattle.rt_plain.specs.Works.{with_work, work_waiter}
+use Rattle.rt_plain.specs.TimerKinds.{is_soft}
 use Rattle.rt_plain.specs.TimerCalls.{find_timer}
 use Rattle.rt_plain.specs.DeviceCalls.{find_device, with_device, console_waiter, indication_effect, notice_effect, arrival_effect_at, arrival_effect, is_sending, sent, registered_devices, ring_after}
-use Rattle.rt_plain.specs.Due.{put_by_number, by_number, due, timeout_code, timeout_effect, with_period, timer_effect, fired_timer_effect, alarm_effect, fired_row_effect, due_rows_effect}
+use Rattle.rt_plain.specs.Due.{put_by_number, by_number, due, timeout_code, timeout_effect, timer_action_effect, soft_timer_effect, fired_timer_effect, alarm_effect, fired_row_effect, due_rows_effect}
 use Rattle.rt_plain.specs.Ticks.{thread_after_slice, with_slice_used, next_tick_state, alarms_effect, arrivals_now, deliveries, transmissions, with_until_halt, tick_effect}
-use Rattle.rt_plain.specs.Sound.{is_timed_action, is_waiting}
-use Rattle.rt_plain.proofs.TallyLemmas.{one_if, tally, tally-filter, all-passing, all-both}
-use Rattle.rt_plain.proofs.Invariant.{Frame, Kept, is_owned, IsFineThread, IsFineTimer, IsWaited, IsRowKept, fine-at, thread-kept, without_alarm-kept}
-use Rattle.rt_plain.proofs.WakeLemmas.{wake-kept, retry_wake-kept, console-waiter-waits, each-kept, for-kept}
-use Rattle.rt_plain.proofs.ObjectLemmas.{armed-kept, found-owner, found-timer, outcome-kept, sem_release-kept}
+use Rattle.rt_plain.specs.Sound.{is_waiting}
+use Rattle.rt_plain.proofs.TallyLemmas.{one_if, tally, tally-last, tally-filter, tally-dropped, all-weaker, all-passing, all-both}
+use Rattle.rt_plain.proofs.Invariant.{Frame, Kept, is_owned, is_work_of, standings, IsFineThread, IsFineTimer, IsWaited, IsRowKept, fine-at, fine-later, bounded-later, thread-kept, without_alarm-kept, works-kept}
+use Rattle.rt_plain.proofs.WakeLemmas.{wake-kept, retry_wake-kept, console-waiter-waits, work-waiter-waits, each-kept, for-kept}
+use Rattle.rt_plain.proofs.ObjectLemmas.{action-kept, found-owner, found-timer, found-name, sem_release-kept}
 use Rattle.rt_plain.proofs.StatementLemmas.{if-effect, settled-kept}
 use Rattle.std.proofs.lemmas.Bool.{eqb-false}
 
@@ -27,13 +28,14 @@ with_few f few = record f { few = few }
 
 pub few-kept : (f : Frame) (n : ℕ) (s : State) → tally (λ (row : ArmedRow Alarm). eqb row.due f.now) s.armed ≤ n → Kept f s → Kept (with_few f n) s
 few-kept f n s few kept = record {
-  tick_is = kept.tick_is;
+  moment_is = kept.moment_is;
   live = kept.live;
   ends = kept.ends;
   count = kept.count;
   cores = kept.cores;
   placed = kept.placed;
   rows = kept.rows;
+  bounded = kept.bounded;
   due_few = few;
   single = kept.single;
   owned = kept.owned;
@@ -66,8 +68,17 @@ drops-one now (x ∷ xs) = (here, more xs (drops-one now xs)) where
   more [] all = tt
   more (y ∷ ys) all = (λ is. kept y (all.0 is), more ys all.1)
 
--- a row that is due: it is dropped with its alarm's rows, and its thread waits
+-- each row counts among those of its alarm
+abbrev IsListed : List (ArmedRow Alarm) → ArmedRow Alarm → Type 0
+IsListed armed row = 1 ≤ tally (λ (r : ArmedRow Alarm). is_alarm row.alarm r.alarm) armed
+
+all-listed : (armed : List (ArmedRow Alarm)) → AllByRecursion (IsListed armed) armed
+all-listed [] = tt
+all-listed (x ∷ xs) = (omega (arith, ap one_if (alarm-same x.alarm)), all-weaker (IsListed xs) (IsListed (x ∷ xs)) xs (λ y is. omega (arith, is)) (all-listed xs))
+
+-- a row that is due: it is one of its alarm's, with which it is dropped, and its thread waits
 pub record IsDueRow (now : ℕ) (threads : List Thread) (armed : List (ArmedRow Alarm)) (row : ArmedRow Alarm) : Type 0 where
+  pub listed : 1 ≤ tally (λ (r : ArmedRow Alarm). is_alarm row.alarm r.alarm) armed
   pub waits : IsWaited threads row.alarm
   pub drops : DropsOne now armed row
 
@@ -101,38 +112,45 @@ filter-length p (x ∷ xs) = by_test (p x) (filter-length p xs) where
   by_test false same = omega (arith, same)
 
 pub due-length : (f : Frame) (s : State) → Kept f s → length (due s) ≡ tally (λ (row : ArmedRow Alarm). eqb row.due f.now) s.armed
-due-length f s kept = number-length (filter (λ row. eqb row.due s.tick) s.armed) ∙ filter-length (λ row. eqb row.due s.tick) s.armed ∙ ap (λ now. tally (λ (row : ArmedRow Alarm). eqb row.due now) s.armed) kept.tick_is
+due-length f s kept = number-length (filter (λ row. eqb row.due s.moment) s.armed) ∙ filter-length (λ row. eqb row.due s.moment) s.armed ∙ ap (λ now. tally (λ (row : ArmedRow Alarm). eqb row.due now) s.armed) kept.moment_is
 
 pub due-rows : (f : Frame) (s : State) → Kept f s → AllByRecursion (IsDueRow f.now s.threads s.armed) (due s)
-due-rows f s kept = number-all (IsDueRow f.now s.threads s.armed) (filter (λ (row : ArmedRow Alarm). eqb row.due s.tick) s.armed)
-    (all-passing (λ row. eqb row.due f.now ≡ true → IsDueRow f.now s.threads s.armed row) (IsDueRow f.now s.threads s.armed) (λ (row : ArmedRow Alarm). eqb row.due s.tick) s.armed (λ row passes is. is (ap (eqb row.due) (sym kept.tick_is) ∙ passes))
-    (all-both (IsRowKept f.low s.threads) (λ row. eqb row.due f.now ≡ true → DropsOne f.now s.armed row) _ s.armed (λ row held drops is. record { waits = held.1; drops = drops is }) kept.rows (drops-one f.now s.armed)))
+due-rows f s kept = number-all (IsDueRow f.now s.threads s.armed) (filter (λ (row : ArmedRow Alarm). eqb row.due s.moment) s.armed)
+    (all-passing (λ row. eqb row.due f.now ≡ true → IsDueRow f.now s.threads s.armed row) (IsDueRow f.now s.threads s.armed) (λ (row : ArmedRow Alarm). eqb row.due s.moment) s.armed (λ row passes is. is (ap (eqb row.due) (sym kept.moment_is) ∙ passes))
+    (all-both (λ row. IsListed s.armed row × IsWaited s.threads row.alarm) (λ row. eqb row.due f.now ≡ true → DropsOne f.now s.armed row) _ s.armed (λ row held drops is. record { listed = held.0; waits = held.1; drops = drops is })
+    (all-both (IsListed s.armed) (IsRowKept f.low s.threads) _ s.armed (λ row listed held. (listed, held.1)) (all-listed s.armed) kept.rows) (drops-one f.now s.armed)))
 
 -- a due row fires
 timed-out : (f : Frame) (s : State) (t : ℕ) → is_waiting (thread_at s t).stage ≡ true → Kept f s → Kept f (timeout_effect t s).state
 timed-out f s t waits kept = wake-kept f s (timeout_code (thread_at s t).stage) t waits kept
 
-period-kept : (f : Frame) (s : State) (kind : TimerKind) (timer : Timer) → IsFineTimer timer → is_owned s.timers (OfTimer timer.name) ≡ true → Kept f s → Kept f (with_period kind timer s)
-period-kept f s TimerKind.OneShot timer fine owner kept = kept
-period-kept f s TimerKind.Periodic timer fine owner kept = armed-kept f s timer fine owner kept
+-- a timer that is neither armed nor a work becomes one
+work-more : (works : List (List ℕ)) (armed : List (ArmedRow Alarm)) (name : List ℕ) → standings (OfTimer name) works armed ≡ 0 → ((alarm : Alarm) → standings alarm works armed ≤ 1) → (alarm : Alarm) → standings alarm (works ++ name ∷ []) armed ≤ 1
+work-more works armed name alone single (OfThread t) = omega (arith, tally-last (is_work_of (OfThread t)) works name, single (OfThread t))
+work-more works armed name alone single (OfTimer n) = by_test (bytes_eq name n) refl where
+  by_test : (c : Bool) → bytes_eq name n ≡ c → standings (OfTimer n) (works ++ name ∷ []) armed ≤ 1
+  by_test true is = omega (arith, tally-last (is_work_of (OfTimer n)) works name, ap one_if is, subst (λ (m : List ℕ). standings (OfTimer m) works armed ≡ 0) ((bytes_eq-Decides name n).0 is) alone)
+  by_test false is = omega (arith, tally-last (is_work_of (OfTimer n)) works name, ap one_if is, single (OfTimer n))
 
-action-kept : (f : Frame) (s : State) (name : List ℕ) (action : Option Stmt) → is_timed_action action ≡ true → Kept f s → Kept f (timer_effect f.board name action s).state
-action-kept f s name None timed kept = kept
-action-kept f s name (Some (Stmt.Print text)) timed kept = kept
-action-kept f s name (Some (Stmt.Do call)) timed kept = outcome-kept f f.board s call (ByTimer name) First timed tt kept
-action-kept f s name (Some _) timed kept = kept
+soft-kept : (f : Frame) (s : State) (name : List ℕ) → standings (OfTimer name) s.works s.armed ≡ 0 → Kept f s → Kept f (soft_timer_effect name s).state
+soft-kept f s name alone kept = for-kept f retry_wake_effect (work_waiter (with_work s name)) (with_work s name) (λ t is. retry_wake-kept f (with_work s name) t (work-waiter-waits (with_work s name) t is) worked) worked where
+  worked : Kept f (with_work s name)
+  worked = works-kept f s (with_work s name).works (work-more s.works s.armed name alone kept.single) kept
 
-fired-kept : (f : Frame) (s : State) (o : Option Timer) → ((timer : Timer) → o ≡ Some timer → IsFineTimer timer × (is_owned s.timers (OfTimer timer.name) ≡ true)) → Kept f s → Kept f (fired_timer_effect f.board o s).state
+fired-kept : (f : Frame) (s : State) (o : Option Timer) → ((timer : Timer) → o ≡ Some timer → IsFineTimer f.board timer × (is_owned s.timers (OfTimer timer.name) ≡ true) × (standings (OfTimer timer.name) s.works s.armed ≡ 0)) → Kept f s → Kept f (fired_timer_effect f.board o s).state
 fired-kept f s None fine kept = kept
-fired-kept f s (Some timer) fine kept = action-kept f (with_period timer.kind timer s) timer.name timer.call (fine timer refl).0.1 (period-kept f s timer.kind timer (fine timer refl).0 (fine timer refl).1 kept)
+fired-kept f s (Some timer) fine kept = if-effect f (is_soft timer.kind) (soft_timer_effect timer.name s) _ (λ soft. soft-kept f s timer.name (fine timer refl).2 kept)
+    (λ hard. action-kept f s (Line.Fire timer.name) timer (fine timer refl).0 (fine timer refl).1 (omega (arith, (fine timer refl).2)) kept)
 
-alarm-kept : (f : Frame) (s : State) (alarm : Alarm) → IsWaited s.threads alarm → Kept f s → Kept f (alarm_effect f.board alarm s).state
-alarm-kept f s (OfThread t) waits kept = timed-out f s t waits kept
-alarm-kept f s (OfTimer name) waits kept = fired-kept f s (find_timer s name) (λ timer is. (found-timer f s name timer is kept, found-owner s name timer is)) kept
+alarm-kept : (f : Frame) (s : State) (alarm : Alarm) → IsWaited s.threads alarm → standings alarm s.works s.armed ≡ 0 → Kept f s → Kept f (alarm_effect f.board alarm s).state
+alarm-kept f s (OfThread t) waits alone kept = timed-out f s t waits kept
+alarm-kept f s (OfTimer name) waits alone kept = fired-kept f s (find_timer s name) (λ timer is. (found-timer f s name timer is kept, found-owner s name timer is, subst (λ (n : List ℕ). standings (OfTimer n) s.works s.armed ≡ 0) (sym (found-name s name timer is)) alone)) kept
 
 pub row-kept : (f : Frame) (n : ℕ) (s : State) (row : ArmedRow Alarm) → IsDueRow f.now s.threads s.armed row → tally (λ (r : ArmedRow Alarm). eqb r.due f.now) s.armed ≤ suc n → Kept f s → Kept (with_few f n) (fired_row_effect f.board row s).state
-row-kept f n s row is few kept = settled-kept (with_few f n) s (alarm_effect f.board row.alarm (without_alarm s row.alarm)) (alarm-kept (with_few f n) (without_alarm s row.alarm) row.alarm is.waits
-    (few-kept f n (without_alarm s row.alarm) (omega (arith, is.drops, few)) (without_alarm-kept f s row.alarm kept)))
+row-kept f n s row is few kept = settled-kept (with_few f n) s (alarm_effect f.board row.alarm (without_alarm s row.alarm)) (alarm-kept (with_few f n) (without_alarm s row.alarm) row.alarm is.waits alone
+    (few-kept f n (without_alarm s row.alarm) (omega (arith, is.drops, few)) (without_alarm-kept f s row.alarm kept))) where
+      alone : standings row.alarm s.works (without_alarm s row.alarm).armed ≡ 0
+      alone = omega (arith, kept.single row.alarm, is.listed, tally-dropped (λ (r : ArmedRow Alarm). is_alarm row.alarm r.alarm) s.armed)
 
 -- all that are due fire
 pub due-kept : (f : Frame) (n : ℕ) (s : State) → tally (λ (r : ArmedRow Alarm). eqb r.due f.now) s.armed ≤ n → Kept f s → Kept (with_few f 0) (due_rows_effect f.board n (due s) s).state
@@ -157,37 +175,38 @@ still b now = record { board = b; now = now; low = now + 1; few = 0; latest = b.
 abbrev pub fired : PlainBoard → ℕ → Frame
 fired b now = record { board = b; now = now; low = now + 1; few = 0; latest = b.until; fits = same-fits now }
 
--- the next tick: what is due now may fire
+-- the next moment: what is due now may fire
 abbrev pub firing : PlainBoard → ℕ → ℕ → Frame
 firing b now few = record { board = b; now = now; low = now; few = few; latest = b.until; fits = less-fits now }
 
--- the tick rises, and what is armed may be due now
-risen-kept : (b : PlainBoard) (now : ℕ) (s : State) → Kept (still b now) s → Kept (firing b (now + 1) (tally (λ (row : ArmedRow Alarm). eqb row.due (now + 1)) s.armed)) (record s { tick = s.tick + 1 })
+-- the moment rises, and what is armed may be due now
+risen-kept : (b : PlainBoard) (now : ℕ) (s : State) → Kept (still b now) s → Kept (firing b (now + 1) (tally (λ (row : ArmedRow Alarm). eqb row.due (now + 1)) s.armed)) (record s { moment = s.moment + 1 })
 risen-kept b now s kept = record {
-  tick_is = ap (λ n. n + 1) kept.tick_is;
+  moment_is = ap (λ n. n + 1) kept.moment_is;
   live = λ some on. omega (arith, some, kept.live some on);
   ends = kept.ends;
   count = kept.count;
   cores = kept.cores;
   placed = kept.placed;
   rows = kept.rows;
+  bounded = bounded-later now s.numbers s.armed kept.bounded;
   due_few = omega arith;
   single = kept.single;
   owned = kept.owned;
-  fine = kept.fine;
+  fine = fine-later b now s.threads kept.fine;
   nest_runs = kept.nest_runs;
   timers_fine = kept.timers_fine;
 }
 
-pub slice-fine : (b : PlainBoard) (row : Thread) → ((thread_after_slice row).stage ≡ row.stage) × (IsFineThread b row → IsFineThread b (thread_after_slice row))
-slice-fine b row = by_test (eqb (row.left - 1) 0) where
-  by_test : (c : Bool) → let new : Thread = if c then record row { left = row.slice; marked = true } else record row { left = row.left - 1 } in (new.stage ≡ row.stage) × (IsFineThread b row → IsFineThread b new)
+pub slice-fine : (b : PlainBoard) (now : ℕ) (row : Thread) → ((thread_after_slice row).stage ≡ row.stage) × (IsFineThread b now row → IsFineThread b now (thread_after_slice row))
+slice-fine b now row = by_test (eqb (row.left - 1) 0) where
+  by_test : (c : Bool) → let new : Thread = if c then record row { left = row.slice; marked = true } else record row { left = row.left - 1 } in (new.stage ≡ row.stage) × (IsFineThread b now row → IsFineThread b now new)
   by_test true = (refl, λ fine. fine)
   by_test false = (refl, λ fine. fine)
 
 used-kept : (f : Frame) (s : State) (r : Option ℕ) → Kept f s → Kept f (with_slice_used s r)
 used-kept f s None kept = kept
-used-kept f s (Some t) kept = thread-kept f s t (thread_after_slice (thread_at s t)) (slice-fine f.board (thread_at s t)).0 ((slice-fine f.board (thread_at s t)).1 (fine-at f s t kept)) kept
+used-kept f s (Some t) kept = thread-kept f s t (thread_after_slice (thread_at s t)) (slice-fine f.board f.now (thread_at s t)).0 ((slice-fine f.board f.now (thread_at s t)).1 (fine-at f s t kept)) kept
 
 pub fold-kept : (f : Frame) {A : Type 0} (step : State → A → State) → ((s : State) (x : A) → Kept f s → Kept f (step s x)) → (xs : List A) (s : State) → Kept f s → Kept f (fold step s xs)
 fold-kept f step keeps [] s kept = kept
@@ -199,8 +218,8 @@ fold-armed (None ∷ xs) s = fold-armed xs s
 fold-armed (Some t ∷ xs) s = fold-armed xs (with_slice_used s (Some t))
 
 pub next-kept : (b : PlainBoard) (now : ℕ) (s : State) → Kept (still b now) s → Kept (firing b (now + 1) (tally (λ (row : ArmedRow Alarm). eqb row.due (now + 1)) (next_tick_state s).armed)) (next_tick_state s)
-next-kept b now s kept = subst (λ (armed : List (ArmedRow Alarm)). Kept (firing b (now + 1) (tally (λ (row : ArmedRow Alarm). eqb row.due (now + 1)) armed)) (next_tick_state s)) (sym (fold-armed s.running (record s { tick = s.tick + 1 })))
-    (fold-kept (firing b (now + 1) (tally (λ (row : ArmedRow Alarm). eqb row.due (now + 1)) s.armed)) with_slice_used (used-kept _) s.running (record s { tick = s.tick + 1 }) (risen-kept b now s kept))
+next-kept b now s kept = subst (λ (armed : List (ArmedRow Alarm)). Kept (firing b (now + 1) (tally (λ (row : ArmedRow Alarm). eqb row.due (now + 1)) armed)) (next_tick_state s)) (sym (fold-armed s.running (record s { moment = s.moment + 1 })))
+    (fold-kept (firing b (now + 1) (tally (λ (row : ArmedRow Alarm). eqb row.due (now + 1)) s.armed)) with_slice_used (used-kept _) s.running (record s { moment = s.moment + 1 }) (risen-kept b now s kept))
 
 -- nothing that is left is due
 rows-later : (now : ℕ) (threads : List Thread) (armed : List (ArmedRow Alarm)) → tally (λ (row : ArmedRow Alarm). eqb row.due now) armed ≤ 0 → AllByRecursion (IsRowKept now threads) armed → AllByRecursion (IsRowKept (now + 1) threads) armed
@@ -214,13 +233,14 @@ rows-later now threads (row ∷ rows) none all = ((later, all.0.1), rows-later n
 
 settled-still : (b : PlainBoard) (now : ℕ) (s : State) → Kept (with_few (firing b now 0) 0) s → Kept (fired b now) s
 settled-still b now s kept = record {
-  tick_is = kept.tick_is;
+  moment_is = kept.moment_is;
   live = kept.live;
   ends = kept.ends;
   count = kept.count;
   cores = kept.cores;
   placed = kept.placed;
   rows = rows-later now s.threads s.armed kept.due_few kept.rows;
+  bounded = kept.bounded;
   due_few = kept.due_few;
   single = kept.single;
   owned = kept.owned;
@@ -258,16 +278,17 @@ transmitted-kept : (f : Frame) (s : State) → Kept f s → Kept f (transmission
 transmitted-kept f s kept = each-kept f sent (λ device u k. sent-kept f u device k) (registered_devices s) s kept
 
 until-kept : (b : PlainBoard) (now : ℕ) (s : State) → Kept (fired b now) s → Kept (still b now) (with_until_halt b s)
-until-kept b now s kept = by_test (eqb s.tick b.until) refl where
-  by_test : (c : Bool) → eqb s.tick b.until ≡ c → Kept (still b now) (if c then record s { halt = Some Halt.Until } else s)
+until-kept b now s kept = by_test (eqb s.moment b.until) refl where
+  by_test : (c : Bool) → eqb s.moment b.until ≡ c → Kept (still b now) (if c then record s { halt = Some Halt.Until } else s)
   by_test true last = record {
-    tick_is = kept.tick_is;
+    moment_is = kept.moment_is;
     live = λ some on. absurd cc;
     ends = λ halt is. until halt is;
     count = kept.count;
     cores = kept.cores;
     placed = kept.placed;
     rows = kept.rows;
+    bounded = kept.bounded;
     due_few = kept.due_few;
     single = kept.single;
     owned = kept.owned;
@@ -278,13 +299,14 @@ until-kept b now s kept = by_test (eqb s.tick b.until) refl where
     until : (halt : Halt) → Some Halt.Until ≡ Some halt → halt ≡ Halt.Until
     until halt is = cc
   by_test false later = record {
-    tick_is = kept.tick_is;
-    live = λ some on. let apart : s.tick ≢ b.until = eqb-false s.tick b.until later in omega (arith, kept.live some on, apart);
+    moment_is = kept.moment_is;
+    live = λ some on. let apart : s.moment ≢ b.until = eqb-false s.moment b.until later in omega (arith, kept.live some on, apart);
     ends = kept.ends;
     count = kept.count;
     cores = kept.cores;
     placed = kept.placed;
     rows = kept.rows;
+    bounded = kept.bounded;
     due_few = kept.due_few;
     single = kept.single;
     owned = kept.owned;
