@@ -9,7 +9,7 @@ use Rattle.rt_plain.specs.declared.board.Arrival.{Arrival}
 use Rattle.rt_plain.specs.declared.stmt.Stmt.{Stmt}
 use Rattle.rt_plain.specs.PlainBoard.{PlainBoard}
 use Rattle.rt_plain.specs.Splits.{lines_of}
-use Rattle.rt_plain.specs.BoardText.{SoFar, scripted, last_tick, last_length, start, after, is_skipped, Stands, IsLine, AreLines, IsBoard, judged, Bad, with_judged, outcome, reading, error_of, first_bad}
+use Rattle.rt_plain.specs.BoardText.{SoFar, scripted, last_count, last_length, start, after, is_skipped, Stands, IsLine, AreLines, IsBoard, judged, Bad, with_judged, outcome, reading, error_of, first_bad}
 use Rattle.rt_plain.proofs.FieldLemmas.{when, unless}
 use Rattle.rt_plain.proofs.LineLemmas.{line-takes, line-again}
 
@@ -106,13 +106,13 @@ scripted_last [] t s = refl
 scripted_last (u ∷ []) t s = refl
 scripted_last (u ∷ v ∷ ts) t s = ap (λ (us : List ThreadDef). u ∷ us) (scripted_last (v ∷ ts) t s)
 
-pub last_arrival : (xs : List Arrival) (d : Arrival) → 0 < length xs → last_tick xs ≡ (get_or xs (length xs - 1) d).tick
+pub last_arrival : (xs : List Arrival) (d : Arrival) → 0 < length xs → last_count xs ≡ (get_or xs (length xs - 1) d).count
 last_arrival [] d lt = absurd (omega arith)
 last_arrival (a ∷ []) d lt = refl
 last_arrival (a ∷ c ∷ cs) d lt =
     let here : suc (suc (length cs)) - 1 ≡ suc (length cs) = omega arith in
     let there : suc (length cs) - 1 ≡ length cs = omega arith in
-    last_arrival (c ∷ cs) d (omega arith) ∙ ap (λ (n : ℕ). (get_or (c ∷ cs) n d).tick) there ∙ ap (λ (n : ℕ). (get_or (a ∷ c ∷ cs) n d).tick) (sym here)
+    last_arrival (c ∷ cs) d (omega arith) ∙ ap (λ (n : ℕ). (get_or (c ∷ cs) n d).count) there ∙ ap (λ (n : ℕ). (get_or (a ∷ c ∷ cs) n d).count) (sym here)
 
 pub last_script : (xs : List ThreadDef) (d : ThreadDef) → 0 < length xs → last_length xs ≡ length (get_or xs (length xs - 1) d).script
 last_script [] d lt = absurd (omega arith)

@@ -9,6 +9,7 @@ use Rattle.rt_plain.specs.declared.board.EventDef.{EventDef}
 use Rattle.rt_plain.specs.declared.board.MutexDef.{MutexDef}
 use Rattle.rt_plain.specs.declared.board.MailboxDef.{MailboxDef}
 use Rattle.rt_plain.specs.declared.board.QueueDef.{QueueDef}
+use Rattle.rt_plain.specs.declared.board.PoolDef.{PoolDef}
 use Rattle.rt_plain.specs.declared.board.DeviceDef.{DeviceDef}
 use Rattle.rt_plain.specs.declared.board.TimerDef.{TimerDef}
 use Rattle.rt_plain.specs.declared.board.ThreadDef.{ThreadDef}
@@ -24,7 +25,7 @@ use Rattle.rt_plain.specs.Texts.{with_newline}
 use Rattle.rt_plain.specs.Splits.{lines_of, is_printable}
 use Rattle.rt_plain.specs.LineTable.{row, FormValues, parts, text_of}
 use Rattle.rt_plain.specs.BoardText.{SoFar, start, added, after, scripted, is_skipped, Stands, AreLines, IsBoard}
-use Rattle.rt_plain.specs.Canon.{line_of_thread, thread_lines, shell_lines, setting_lines, limit_lines, object_lines, board_lines, text_of_lines, canonical_text, IsValid}
+use Rattle.rt_plain.specs.Canon.{line_of_thread, thread_lines, shell_lines, soft_lines, setting_lines, limit_lines, object_lines, board_lines, text_of_lines, canonical_text, IsValid}
 use Rattle.rt_plain.proofs.SplitLemmas.{IsUnbroken, line_is}
 use Rattle.rt_plain.proofs.LineTableLemmas.{spelling, text-parts}
 use Rattle.rt_plain.proofs.LineLemmas.{spelling_printable}
@@ -79,71 +80,80 @@ pub after-append : (s : SoFar) (ls ms : List BoardLine) → after_all s (ls ++ m
 after-append s [] ms = refl
 after-append s (l ∷ ls) ms = after-append (after s l) ls ms
 
+-- what lines do to the board, wherever they stand
+record Make (ls : List BoardLine) (f : PlainBoard → PlainBoard) : Type 0 where
+  made : (s : SoFar) → (after_all s ls).board ≡ f s.board
+
+-- two pieces, one after the other
+both_make : {ls ms : List BoardLine} {f g : PlainBoard → PlainBoard} → Make ls f → Make ms g → Make (ls ++ ms) (λ b. g (f b))
+both_make {ls} {ms} {f} {g} h k = record { made = λ s. ap (λ (t : SoFar). t.board) (after-append s ls ms) ∙ k.made (after_all s ls) ∙ ap g (h.made s) }
+
 -- the lines of one class, put at the end of the board's list one by one
-class_back : {A : Type 0} (say : A → BoardLine) (put : PlainBoard → List A → PlainBoard) → ((b : PlainBoard) (x : A) → added b (say x) ≡ put b (x ∷ [])) → ((b : PlainBoard) → put b [] ≡ b) → ((b : PlainBoard) (xs ys : List A) → put (put b xs) ys ≡ put b (xs ++ ys)) → (s : SoFar) (xs : List A) → (after_all s (map say xs)).board ≡ put s.board xs
-class_back say put one none more s [] = sym (none s.board)
-class_back say put one none more s (x ∷ xs) = class_back say put one none more (after s (say x)) xs ∙ ap (λ (b : PlainBoard). put b xs) (one s.board x) ∙ more s.board (x ∷ []) xs
+class_made : {A : Type 0} (say : A → BoardLine) (put : PlainBoard → List A → PlainBoard) → ((b : PlainBoard) (x : A) → added b (say x) ≡ put b (x ∷ [])) → ((b : PlainBoard) → put b [] ≡ b) → ((b : PlainBoard) (xs ys : List A) → put (put b xs) ys ≡ put b (xs ++ ys)) → (xs : List A) → Make (map say xs) (λ b. put b xs)
+class_made {A} say put one none more xs = record { made = λ s. each s xs } where
+  each : (s : SoFar) (xs : List A) → (after_all s (map say xs)).board ≡ put s.board xs
+  each s [] = sym (none s.board)
+  each s (x ∷ xs) = each (after s (say x)) xs ∙ ap (λ (b : PlainBoard). put b xs) (one s.board x) ∙ more s.board (x ∷ []) xs
 
 abbrev with_sems : PlainBoard → List SemDef → PlainBoard
 with_sems b xs = record b { sems = b.sems ++ xs }
 
-sems_back : (s : SoFar) (xs : List SemDef) → (after_all s (map (λ (x : SemDef). BoardLine.Sem x) xs)).board ≡ with_sems s.board xs
-sems_back = class_back (λ (x : SemDef). BoardLine.Sem x) with_sems (λ b x. refl) (λ b. ap (λ (xs : List SemDef). record b { sems = xs }) (append-nil b.sems)) (λ b xs ys. ap (λ (zs : List SemDef). record b { sems = zs }) (append_assoc b.sems xs ys))
+sems_made : (xs : List SemDef) → Make (map (λ (x : SemDef). BoardLine.Sem x) xs) (λ b. with_sems b xs)
+sems_made = class_made (λ (x : SemDef). BoardLine.Sem x) with_sems (λ b x. refl) (λ b. ap (λ (xs : List SemDef). record b { sems = xs }) (append-nil b.sems)) (λ b xs ys. ap (λ (zs : List SemDef). record b { sems = zs }) (append_assoc b.sems xs ys))
 
 abbrev with_events : PlainBoard → List EventDef → PlainBoard
 with_events b xs = record b { events = b.events ++ xs }
 
-events_back : (s : SoFar) (xs : List EventDef) → (after_all s (map (λ (x : EventDef). BoardLine.Event x) xs)).board ≡ with_events s.board xs
-events_back = class_back (λ (x : EventDef). BoardLine.Event x) with_events (λ b x. refl) (λ b. ap (λ (xs : List EventDef). record b { events = xs }) (append-nil b.events)) (λ b xs ys. ap (λ (zs : List EventDef). record b { events = zs }) (append_assoc b.events xs ys))
+events_made : (xs : List EventDef) → Make (map (λ (x : EventDef). BoardLine.Event x) xs) (λ b. with_events b xs)
+events_made = class_made (λ (x : EventDef). BoardLine.Event x) with_events (λ b x. refl) (λ b. ap (λ (xs : List EventDef). record b { events = xs }) (append-nil b.events)) (λ b xs ys. ap (λ (zs : List EventDef). record b { events = zs }) (append_assoc b.events xs ys))
 
 abbrev with_mutexes : PlainBoard → List MutexDef → PlainBoard
 with_mutexes b xs = record b { mutexes = b.mutexes ++ xs }
 
-mutexes_back : (s : SoFar) (xs : List MutexDef) → (after_all s (map (λ (x : MutexDef). BoardLine.Mutex x) xs)).board ≡ with_mutexes s.board xs
-mutexes_back = class_back (λ (x : MutexDef). BoardLine.Mutex x) with_mutexes (λ b x. refl) (λ b. ap (λ (xs : List MutexDef). record b { mutexes = xs }) (append-nil b.mutexes)) (λ b xs ys. ap (λ (zs : List MutexDef). record b { mutexes = zs }) (append_assoc b.mutexes xs ys))
+mutexes_made : (xs : List MutexDef) → Make (map (λ (x : MutexDef). BoardLine.Mutex x) xs) (λ b. with_mutexes b xs)
+mutexes_made = class_made (λ (x : MutexDef). BoardLine.Mutex x) with_mutexes (λ b x. refl) (λ b. ap (λ (xs : List MutexDef). record b { mutexes = xs }) (append-nil b.mutexes)) (λ b xs ys. ap (λ (zs : List MutexDef). record b { mutexes = zs }) (append_assoc b.mutexes xs ys))
 
 abbrev with_mailboxes : PlainBoard → List MailboxDef → PlainBoard
 with_mailboxes b xs = record b { mailboxes = b.mailboxes ++ xs }
 
-mailboxes_back : (s : SoFar) (xs : List MailboxDef) → (after_all s (map (λ (x : MailboxDef). BoardLine.Mailbox x) xs)).board ≡ with_mailboxes s.board xs
-mailboxes_back = class_back (λ (x : MailboxDef). BoardLine.Mailbox x) with_mailboxes (λ b x. refl) (λ b. ap (λ (xs : List MailboxDef). record b { mailboxes = xs }) (append-nil b.mailboxes)) (λ b xs ys. ap (λ (zs : List MailboxDef). record b { mailboxes = zs }) (append_assoc b.mailboxes xs ys))
+mailboxes_made : (xs : List MailboxDef) → Make (map (λ (x : MailboxDef). BoardLine.Mailbox x) xs) (λ b. with_mailboxes b xs)
+mailboxes_made = class_made (λ (x : MailboxDef). BoardLine.Mailbox x) with_mailboxes (λ b x. refl) (λ b. ap (λ (xs : List MailboxDef). record b { mailboxes = xs }) (append-nil b.mailboxes)) (λ b xs ys. ap (λ (zs : List MailboxDef). record b { mailboxes = zs }) (append_assoc b.mailboxes xs ys))
 
 abbrev with_queues : PlainBoard → List QueueDef → PlainBoard
 with_queues b xs = record b { queues = b.queues ++ xs }
 
-queues_back : (s : SoFar) (xs : List QueueDef) → (after_all s (map (λ (x : QueueDef). BoardLine.Queue x) xs)).board ≡ with_queues s.board xs
-queues_back = class_back (λ (x : QueueDef). BoardLine.Queue x) with_queues (λ b x. refl) (λ b. ap (λ (xs : List QueueDef). record b { queues = xs }) (append-nil b.queues)) (λ b xs ys. ap (λ (zs : List QueueDef). record b { queues = zs }) (append_assoc b.queues xs ys))
+queues_made : (xs : List QueueDef) → Make (map (λ (x : QueueDef). BoardLine.Queue x) xs) (λ b. with_queues b xs)
+queues_made = class_made (λ (x : QueueDef). BoardLine.Queue x) with_queues (λ b x. refl) (λ b. ap (λ (xs : List QueueDef). record b { queues = xs }) (append-nil b.queues)) (λ b xs ys. ap (λ (zs : List QueueDef). record b { queues = zs }) (append_assoc b.queues xs ys))
+
+abbrev with_pools : PlainBoard → List PoolDef → PlainBoard
+with_pools b xs = record b { pools = b.pools ++ xs }
+
+pools_made : (xs : List PoolDef) → Make (map (λ (x : PoolDef). BoardLine.Pool x) xs) (λ b. with_pools b xs)
+pools_made = class_made (λ (x : PoolDef). BoardLine.Pool x) with_pools (λ b x. refl) (λ b. ap (λ (xs : List PoolDef). record b { pools = xs }) (append-nil b.pools)) (λ b xs ys. ap (λ (zs : List PoolDef). record b { pools = zs }) (append_assoc b.pools xs ys))
 
 abbrev with_devices : PlainBoard → List DeviceDef → PlainBoard
 with_devices b xs = record b { devices = b.devices ++ xs }
 
-devices_back : (s : SoFar) (xs : List DeviceDef) → (after_all s (map (λ (x : DeviceDef). BoardLine.Device x) xs)).board ≡ with_devices s.board xs
-devices_back = class_back (λ (x : DeviceDef). BoardLine.Device x) with_devices (λ b x. refl) (λ b. ap (λ (xs : List DeviceDef). record b { devices = xs }) (append-nil b.devices)) (λ b xs ys. ap (λ (zs : List DeviceDef). record b { devices = zs }) (append_assoc b.devices xs ys))
+devices_made : (xs : List DeviceDef) → Make (map (λ (x : DeviceDef). BoardLine.Device x) xs) (λ b. with_devices b xs)
+devices_made = class_made (λ (x : DeviceDef). BoardLine.Device x) with_devices (λ b x. refl) (λ b. ap (λ (xs : List DeviceDef). record b { devices = xs }) (append-nil b.devices)) (λ b xs ys. ap (λ (zs : List DeviceDef). record b { devices = zs }) (append_assoc b.devices xs ys))
 
 abbrev with_timers : PlainBoard → List TimerDef → PlainBoard
 with_timers b xs = record b { timers = b.timers ++ xs }
 
-timers_back : (s : SoFar) (xs : List TimerDef) → (after_all s (map (λ (x : TimerDef). BoardLine.Timer x) xs)).board ≡ with_timers s.board xs
-timers_back = class_back (λ (x : TimerDef). BoardLine.Timer x) with_timers (λ b x. refl) (λ b. ap (λ (xs : List TimerDef). record b { timers = xs }) (append-nil b.timers)) (λ b xs ys. ap (λ (zs : List TimerDef). record b { timers = zs }) (append_assoc b.timers xs ys))
+timers_made : (xs : List TimerDef) → Make (map (λ (x : TimerDef). BoardLine.Timer x) xs) (λ b. with_timers b xs)
+timers_made = class_made (λ (x : TimerDef). BoardLine.Timer x) with_timers (λ b x. refl) (λ b. ap (λ (xs : List TimerDef). record b { timers = xs }) (append-nil b.timers)) (λ b xs ys. ap (λ (zs : List TimerDef). record b { timers = zs }) (append_assoc b.timers xs ys))
 
 abbrev with_arrivals : PlainBoard → List Arrival → PlainBoard
 with_arrivals b xs = record b { arrivals = b.arrivals ++ xs }
 
-arrivals_back : (s : SoFar) (xs : List Arrival) → (after_all s (map (λ (x : Arrival). BoardLine.Arrive x) xs)).board ≡ with_arrivals s.board xs
-arrivals_back = class_back (λ (x : Arrival). BoardLine.Arrive x) with_arrivals (λ b x. refl) (λ b. ap (λ (xs : List Arrival). record b { arrivals = xs }) (append-nil b.arrivals)) (λ b xs ys. ap (λ (zs : List Arrival). record b { arrivals = zs }) (append_assoc b.arrivals xs ys))
+arrivals_made : (xs : List Arrival) → Make (map (λ (x : Arrival). BoardLine.Arrive x) xs) (λ b. with_arrivals b xs)
+arrivals_made = class_made (λ (x : Arrival). BoardLine.Arrive x) with_arrivals (λ b x. refl) (λ b. ap (λ (xs : List Arrival). record b { arrivals = xs }) (append-nil b.arrivals)) (λ b xs ys. ap (λ (zs : List Arrival). record b { arrivals = zs }) (append_assoc b.arrivals xs ys))
 
 abbrev with_threads : PlainBoard → List ThreadDef → PlainBoard
 with_threads b ts = record b { threads = b.threads ++ ts }
 
 abbrev same_but : PlainBoard → List ThreadDef → PlainBoard
 same_but b ts = record b { threads = ts }
-
-abbrev with_shell : PlainBoard → Option ℕ → PlainBoard
-with_shell b p = record b { shell = p }
-
-shell_back : (s : SoFar) (p : Option ℕ) → s.board.shell ≡ None → (after_all s (shell_lines p)).board ≡ with_shell s.board p
-shell_back s None e = ap (with_shell s.board) e
-shell_back s (Some p) e = refl
 
 abbrev thread : ThreadLine → List Stmt → ThreadDef
 thread l script = record { name = l.name; prio = l.prio; slice = l.slice; core = l.core; started = l.started; script = script }
@@ -154,50 +164,60 @@ script_back u front l first (x ∷ xs) e =
     script_back (after u (BoardLine.Statement x)) front l (first ++ x ∷ []) xs (ap (λ (ts : List ThreadDef). scripted ts x) e ∙ scripted_last front (thread l first) x)
     ∙ ap (λ (ys : List Stmt). same_but u.board (front ++ thread l ys ∷ [])) (append_assoc first (x ∷ []) xs)
 
-thread_back : (s : SoFar) (t : ThreadDef) → (after_all s (thread_lines t)).board ≡ with_threads s.board (t ∷ [])
-thread_back s t = script_back (after s (BoardLine.Thread (line_of_thread t))) s.board.threads (line_of_thread t) [] t.script refl
+thread_made : (t : ThreadDef) → Make (thread_lines t) (λ b. with_threads b (t ∷ []))
+thread_made t = record { made = λ s. script_back (after s (BoardLine.Thread (line_of_thread t))) s.board.threads (line_of_thread t) [] t.script refl }
 
-threads_back : (s : SoFar) (ts : List ThreadDef) → (after_all s (flat_map thread_lines ts)).board ≡ with_threads s.board ts
-threads_back s [] = ap (same_but s.board) (sym (append-nil s.board.threads))
-threads_back s (t ∷ ts) =
-    let u = after_all s (thread_lines t) in
-    ap (λ (ls : List BoardLine). (after_all s ls).board) (flat_map-cons thread_lines t ts)
-    ∙ ap (λ (v : SoFar). v.board) (after-append s (thread_lines t) (flat_map thread_lines ts))
-    ∙ threads_back u ts
-    ∙ ap (λ (c : PlainBoard). with_threads c ts) (thread_back s t)
-    ∙ ap (same_but s.board) (append_assoc s.board.threads (t ∷ []) ts)
+threads_made : (ts : List ThreadDef) → Make (flat_map thread_lines ts) (λ b. with_threads b ts)
+threads_made [] = record { made = λ s. ap (same_but s.board) (sym (append-nil s.board.threads)) }
+threads_made (t ∷ ts) =
+    let both = both_make (thread_made t) (threads_made ts) in
+    record { made = λ s. ap (λ (ls : List BoardLine). (after_all s ls).board) (flat_map-cons thread_lines t ts) ∙ both.made s ∙ ap (same_but s.board) (append_assoc s.board.threads (t ∷ []) ts) }
 
--- two pieces, one after the other
-both_back : (s : SoFar) (ls ms : List BoardLine) (b : PlainBoard) (f : PlainBoard → PlainBoard) → (after_all s ls).board ≡ b → ((u : SoFar) → (after_all u ms).board ≡ f u.board) → (after_all s (ls ++ ms)).board ≡ f b
-both_back s ls ms b f e g = ap (λ (v : SoFar). v.board) (after-append s ls ms) ∙ g (after_all s ls) ∙ ap f e
+abbrev with_objects : PlainBoard → PlainBoard → PlainBoard
+with_objects b c = record c { sems = c.sems ++ b.sems; events = c.events ++ b.events; mutexes = c.mutexes ++ b.mutexes; mailboxes = c.mailboxes ++ b.mailboxes; queues = c.queues ++ b.queues; pools = c.pools ++ b.pools; devices = c.devices ++ b.devices; timers = c.timers ++ b.timers; threads = c.threads ++ b.threads; arrivals = c.arrivals ++ b.arrivals }
 
-abbrev objects_of : PlainBoard → PlainBoard → PlainBoard
-objects_of b c = with_arrivals (with_threads (with_timers (with_devices (with_queues (with_mailboxes (with_mutexes (with_events (with_sems c b.sems) b.events) b.mutexes) b.mailboxes) b.queues) b.devices) b.timers) b.threads) b.arrivals
+objects_made : (b : PlainBoard) → Make (object_lines b) (with_objects b)
+objects_made b =
+    both_make (sems_made b.sems)
+    (both_make (events_made b.events)
+    (both_make (mutexes_made b.mutexes)
+    (both_make (mailboxes_made b.mailboxes)
+    (both_make (queues_made b.queues)
+    (both_make (pools_made b.pools)
+    (both_make (devices_made b.devices)
+    (both_make (timers_made b.timers)
+    (both_make (threads_made b.threads) (arrivals_made b.arrivals)))))))))
 
-objects_back : (b : PlainBoard) (s : SoFar) → (after_all s (object_lines b)).board ≡ objects_of b s.board
-objects_back b s =
-    both_back s (map (λ d. BoardLine.Sem d) b.sems) _ (with_sems s.board b.sems) (λ c. with_arrivals (with_threads (with_timers (with_devices (with_queues (with_mailboxes (with_mutexes (with_events c b.events) b.mutexes) b.mailboxes) b.queues) b.devices) b.timers) b.threads) b.arrivals) (sems_back s b.sems) (λ s1.
-    both_back s1 (map (λ d. BoardLine.Event d) b.events) _ (with_events s1.board b.events) (λ c. with_arrivals (with_threads (with_timers (with_devices (with_queues (with_mailboxes (with_mutexes c b.mutexes) b.mailboxes) b.queues) b.devices) b.timers) b.threads) b.arrivals) (events_back s1 b.events) (λ s2.
-    both_back s2 (map (λ d. BoardLine.Mutex d) b.mutexes) _ (with_mutexes s2.board b.mutexes) (λ c. with_arrivals (with_threads (with_timers (with_devices (with_queues (with_mailboxes c b.mailboxes) b.queues) b.devices) b.timers) b.threads) b.arrivals) (mutexes_back s2 b.mutexes) (λ s3.
-    both_back s3 (map (λ d. BoardLine.Mailbox d) b.mailboxes) _ (with_mailboxes s3.board b.mailboxes) (λ c. with_arrivals (with_threads (with_timers (with_devices (with_queues c b.queues) b.devices) b.timers) b.threads) b.arrivals) (mailboxes_back s3 b.mailboxes) (λ s4.
-    both_back s4 (map (λ d. BoardLine.Queue d) b.queues) _ (with_queues s4.board b.queues) (λ c. with_arrivals (with_threads (with_timers (with_devices c b.devices) b.timers) b.threads) b.arrivals) (queues_back s4 b.queues) (λ s5.
-    both_back s5 (map (λ d. BoardLine.Device d) b.devices) _ (with_devices s5.board b.devices) (λ c. with_arrivals (with_threads (with_timers c b.timers) b.threads) b.arrivals) (devices_back s5 b.devices) (λ s6.
-    both_back s6 (map (λ d. BoardLine.Timer d) b.timers) _ (with_timers s6.board b.timers) (λ c. with_arrivals (with_threads c b.threads) b.arrivals) (timers_back s6 b.timers) (λ s7.
-    both_back s7 (flat_map thread_lines b.threads) _ (with_threads s7.board b.threads) (λ c. with_arrivals c b.arrivals) (threads_back s7 b.threads) (λ s8.
-    arrivals_back s8 b.arrivals))))))))
+-- the lines of a thread of its own, where there is one
+abbrev or_else : Option ℕ → Option ℕ → Option ℕ
+or_else None q = q
+or_else (Some p) q = Some p
 
-abbrev with_limits : PlainBoard → PlainBoard → PlainBoard
-with_limits b c = record c { limits = b.limits }
+shell_made : (p : Option ℕ) → Make (shell_lines p) (λ b. record b { shell = or_else p b.shell })
+shell_made None = record { made = λ s. refl }
+shell_made (Some p) = record { made = λ s. refl }
 
-limits_back : (b : PlainBoard) (s : SoFar) → (after_all s (limit_lines b)).board ≡ with_limits b s.board
-limits_back b s = refl
+soft_made : (p : Option ℕ) → Make (soft_lines p) (λ b. record b { soft = or_else p b.soft })
+soft_made None = record { made = λ s. refl }
+soft_made (Some p) = record { made = λ s. refl }
+
+limits_made : (b : PlainBoard) → Make (limit_lines b) (λ c. record c { limits = b.limits })
+limits_made b = record { made = λ s. refl }
+
+or_none : (p : Option ℕ) → or_else p None ≡ p
+or_none None = refl
+or_none (Some p) = refl
+
+-- what stands behind the settings
+abbrev pub other_lines : PlainBoard → List BoardLine
+other_lines b = shell_lines b.shell ++ (soft_lines b.soft ++ (limit_lines b ++ object_lines b))
 
 pub board_back : (b : PlainBoard) → (after_all start (board_lines b)).board ≡ b
 board_back b =
-    let s0 = after_all start (setting_lines b) in
-    ap (λ (v : SoFar). v.board) (after-append start (setting_lines b) (shell_lines b.shell ++ (limit_lines b ++ object_lines b)))
-    ∙ both_back s0 (shell_lines b.shell) (limit_lines b ++ object_lines b) (with_shell s0.board b.shell) (λ c. objects_of b (with_limits b c)) (shell_back s0 b.shell refl) (λ s1.
-    both_back s1 (limit_lines b) (object_lines b) (with_limits b s1.board) (objects_of b) (limits_back b s1) (objects_back b))
+    let own = both_make (shell_made b.shell) (both_make (soft_made b.soft) (both_make (limits_made b) (objects_made b))) in
+    ap (λ (s : SoFar). s.board) (after-append start (setting_lines b) (other_lines b))
+    ∙ own.made (after_all start (setting_lines b))
+    ∙ ap (λ (p : Option ℕ). record b { shell = p; soft = or_else b.soft None }) (or_none b.shell) ∙ ap (λ (p : Option ℕ). record b { soft = p }) (or_none b.soft)
 
 one_rank : (s : SoFar) (l : BoardLine) → 1 ≤ (after s l).rank
 unfolding row
@@ -210,7 +230,10 @@ ranks s [] h = h
 ranks s (l ∷ ls) h = ranks (after s l) ls (one_rank s l)
 
 rank_back : (b : PlainBoard) → 1 ≤ (after_all start (board_lines b)).rank
-rank_back b = ranks (after start (BoardLine.Version 1)) (BoardLine.Cores b.cores ∷ BoardLine.Levels b.levels ∷ BoardLine.Tickless b.tickless ∷ BoardLine.Until b.until ∷ BoardLine.Entries b.entries ∷ BoardLine.LpMax b.lpmax ∷ BoardLine.Thresh b.thresh ∷ BoardLine.DefaultMode b.default_mode ∷ BoardLine.Schedule b.schedule ∷ (shell_lines b.shell ++ (limit_lines b ++ object_lines b))) (one_rank start (BoardLine.Version 1))
+unfolding row
+rank_back b =
+    let settings = after_all start (setting_lines b) in
+    subst (λ (s : SoFar). 1 ≤ s.rank) (sym (after-append start (setting_lines b) (other_lines b))) (ranks settings (other_lines b) (omega arith))
 
 -- a board is valid where its lines may stand in their order
 pub valid_where_all_stand : (b : PlainBoard) → AllStand start (board_lines b) → IsValid b

@@ -1,29 +1,32 @@
 -- The board that was read is valid: its lines may stand in their canonical order.
-use Rattle.std.proofs.Common.{◌≡◌, ℕ, ◌^◌, ◌<◌, ◌≤◌, Bool, true, false, not, ◌&&◌, ◌||◌, eqb, leb, ltb, Option, Some, None, List, [], ◌∷◌, ◌++◌, map, refl, sym, ap, ◌∙◌, subst, arith, append_assoc, inl, inr}
+use Rattle.std.proofs.Common.{◌≡◌, ℕ, ◌^◌, ◌<◌, ◌≤◌, Bool, true, false, not, ◌&&◌, ◌||◌, eqb, leb, ltb, Option, Some, None, List, [], ◌∷◌, ◌++◌, map, refl, sym, ap, ◌∙◌, subst, arith, append_assoc, inl, inr, ◌⊎◌}
 use Rattle.std.specs.List.{flat_map}
 use Rattle.std.proofs.lemmas.List.Concat.{flat_map-cons}
 use Rattle.std.proofs.lemmas.List.{append-nil}
-use Rattle.std.proofs.lemmas.Bool.{eqb-true, eqb-false, ltb-false, leb-false, ne_eqb, and_cases, not-false, lt-leb, le-ltb}
+use Rattle.std.proofs.lemmas.Bool.{eqb-true, eqb-false, ltb-false, leb-false, ne_eqb, and_cases, not-false, lt-leb, le-ltb, and_right}
 use Rattle.rt_plain.specs.declared.board.Schedule.{Schedule}
 use Rattle.rt_plain.specs.declared.board.SemDef.{SemDef}
 use Rattle.rt_plain.specs.declared.board.EventDef.{EventDef}
 use Rattle.rt_plain.specs.declared.board.MutexDef.{MutexDef}
 use Rattle.rt_plain.specs.declared.board.MailboxDef.{MailboxDef}
 use Rattle.rt_plain.specs.declared.board.QueueDef.{QueueDef}
+use Rattle.rt_plain.specs.declared.board.PoolDef.{PoolDef}
 use Rattle.rt_plain.specs.declared.board.DeviceDef.{DeviceDef}
 use Rattle.rt_plain.specs.declared.board.TimerDef.{TimerDef}
 use Rattle.rt_plain.specs.declared.board.ThreadDef.{ThreadDef}
 use Rattle.rt_plain.specs.declared.board.Arrival.{Arrival}
 use Rattle.rt_plain.specs.declared.board_line.BoardLine.{BoardLine}
 use Rattle.rt_plain.specs.declared.board_line.LimitClass.{LimitClass}
+use Rattle.rt_plain.specs.declared.kind.LineKind.{LineKind}
+use Rattle.rt_plain.specs.declared.kind.Kind.{Kind}
 use Rattle.rt_plain.specs.declared.stmt.Stmt.{Stmt}
 use Rattle.rt_plain.specs.PlainBoard.{PlainBoard}
 use Rattle.rt_plain.specs.Splits.{lines_of}
 use Rattle.rt_plain.specs.Tails.{limit_top, FitsSchedule}
-use Rattle.rt_plain.specs.LineTable.{row, kind_of, FitsLine}
-use Rattle.rt_plain.specs.BoardText.{SoFar, start, default_board, scripted, unscripted, added, after, is_out_of_order, is_passed_limit, is_twice, is_full, is_schedule_beyond, is_astray, is_head, Stands, AreLines, IsBoard}
-use Rattle.rt_plain.specs.Canon.{line_of_thread, thread_lines, shell_lines, setting_lines, limit_lines, object_lines, board_lines, canonical_text, IsValid}
-use Rattle.rt_plain.proofs.CanonLemmas.{AllStand, after_all, after-append, valid_where_all_stand}
+use Rattle.rt_plain.specs.LineTable.{line_row, row, kind_of, FitsLine}
+use Rattle.rt_plain.specs.BoardText.{SoFar, start, default_board, scripted, unscripted, added, limited_after, after, is_out_of_order, is_passed_limit, is_twice, is_full, is_schedule_beyond, is_astray, is_head, Stands, AreLines, IsBoard}
+use Rattle.rt_plain.specs.Canon.{line_of_thread, thread_lines, shell_lines, soft_lines, setting_lines, limit_lines, object_lines, board_lines, canonical_text, IsValid}
+use Rattle.rt_plain.proofs.CanonLemmas.{AllStand, after_all, after-append, other_lines, valid_where_all_stand}
 use Rattle.rt_plain.proofs.BoardLemmas.{scripted_last}
 
 -- ---- lists that grew item by item
@@ -44,30 +47,6 @@ Suits b l = FitsLine b.levels l × (is_twice b l ≡ false) × (is_full b l ≡ 
 suits : (s : SoFar) (l : BoardLine) → Stands s l → Suits s.board l
 suits s l h = (h.fits, h.once, h.room, h.known)
 
-abbrev SemsGrow : PlainBoard → Type 0
-SemsGrow b = Grows (λ front x. Suits (record b { sems = front }) (BoardLine.Sem x)) [] b.sems
-
-abbrev EventsGrow : PlainBoard → Type 0
-EventsGrow b = Grows (λ front x. Suits (record b { events = front }) (BoardLine.Event x)) [] b.events
-
-abbrev MutexesGrow : PlainBoard → Type 0
-MutexesGrow b = Grows (λ front x. Suits (record b { mutexes = front }) (BoardLine.Mutex x)) [] b.mutexes
-
-abbrev MailboxesGrow : PlainBoard → Type 0
-MailboxesGrow b = Grows (λ front x. Suits (record b { mailboxes = front }) (BoardLine.Mailbox x)) [] b.mailboxes
-
-abbrev QueuesGrow : PlainBoard → Type 0
-QueuesGrow b = Grows (λ front x. Suits (record b { queues = front }) (BoardLine.Queue x)) [] b.queues
-
-abbrev DevicesGrow : PlainBoard → Type 0
-DevicesGrow b = Grows (λ front x. Suits (record b { devices = front }) (BoardLine.Device x)) [] b.devices
-
-abbrev TimersGrow : PlainBoard → Type 0
-TimersGrow b = Grows (λ front x. Suits (record b { timers = front }) (BoardLine.Timer x)) [] b.timers
-
-abbrev ArrivalsGrow : PlainBoard → Type 0
-ArrivalsGrow b = Grows (λ front x. Suits (record b { arrivals = front }) (BoardLine.Arrive x)) [] b.arrivals
-
 -- a thread, and then its statements one by one
 abbrev ScriptGrows : PlainBoard → List ThreadDef → ThreadDef → Type 0
 ScriptGrows b front t = Grows (λ done x. Suits (record b { threads = front ++ record t { script = done } ∷ [] }) (BoardLine.Statement x)) [] t.script
@@ -75,8 +54,22 @@ ScriptGrows b front t = Grows (λ done x. Suits (record b { threads = front ++ r
 abbrev ThreadGrows : PlainBoard → List ThreadDef → ThreadDef → Type 0
 ThreadGrows b front t = Suits (record b { threads = front }) (BoardLine.Thread (line_of_thread t)) × ScriptGrows b front t
 
-abbrev ThreadsGrow : PlainBoard → Type 0
-ThreadsGrow b = Grows (ThreadGrows b) [] b.threads
+-- what a board has of each kind of objects, threads and arrivals, grew item by item
+abbrev ObjectGrows : PlainBoard → LineKind → Type 0
+ObjectGrows b LineKind.Sem = Grows (λ front x. Suits (record b { sems = front }) (BoardLine.Sem x)) [] b.sems
+ObjectGrows b LineKind.Event = Grows (λ front x. Suits (record b { events = front }) (BoardLine.Event x)) [] b.events
+ObjectGrows b LineKind.Mutex = Grows (λ front x. Suits (record b { mutexes = front }) (BoardLine.Mutex x)) [] b.mutexes
+ObjectGrows b LineKind.Mailbox = Grows (λ front x. Suits (record b { mailboxes = front }) (BoardLine.Mailbox x)) [] b.mailboxes
+ObjectGrows b LineKind.Queue = Grows (λ front x. Suits (record b { queues = front }) (BoardLine.Queue x)) [] b.queues
+ObjectGrows b LineKind.Pool = Grows (λ front x. Suits (record b { pools = front }) (BoardLine.Pool x)) [] b.pools
+ObjectGrows b LineKind.Device = Grows (λ front x. Suits (record b { devices = front }) (BoardLine.Device x)) [] b.devices
+ObjectGrows b LineKind.Timer = Grows (λ front x. Suits (record b { timers = front }) (BoardLine.Timer x)) [] b.timers
+ObjectGrows b LineKind.Thread = Grows (ThreadGrows b) [] b.threads
+ObjectGrows b LineKind.Arrive = Grows (λ front x. Suits (record b { arrivals = front }) (BoardLine.Arrive x)) [] b.arrivals
+ObjectGrows b _ = Unit {0}
+
+abbrev ObjectsGrow : PlainBoard → Type 0
+ObjectsGrow b = (k : LineKind) → ObjectGrows b k
 
 -- one statement more at the end of the last script
 push_statement : (b : PlainBoard) (front ts : List ThreadDef) (x : Stmt) → Grows (ThreadGrows b) front ts → Suits (record b { threads = front ++ ts }) (BoardLine.Statement x) → Grows (ThreadGrows b) front (scripted ts x)
@@ -86,43 +79,60 @@ push_statement b front (t ∷ u ∷ ts) x h p = (h.0, push_statement b (front ++
 
 -- ---- what holds of each board that was read
 
-abbrev ShellFits : ℕ → Option ℕ → Type 0
-ShellFits levels None = Unit {0}
-ShellFits levels (Some p) = FitsLine levels (BoardLine.Shell p)
+-- a thread of its own has a priority in its range, where it is there
+abbrev OwnFits : ℕ → Option ℕ → Type 0
+OwnFits levels None = Unit {0}
+OwnFits levels (Some p) = FitsLine levels (BoardLine.Shell p)
 
--- the settings are in their ranges
+-- the settings are in their ranges, each by the kind of its line
+abbrev SettingFits : PlainBoard → LineKind → Type 0
+SettingFits b LineKind.Cores = FitsLine 0 (BoardLine.Cores b.cores)
+SettingFits b LineKind.Levels = FitsLine 0 (BoardLine.Levels b.levels)
+SettingFits b LineKind.Tickless = FitsLine 0 (BoardLine.Tickless b.tickless)
+SettingFits b LineKind.Tick0 = FitsLine 0 (BoardLine.Tick0 b.tick0)
+SettingFits b LineKind.Until = FitsLine 0 (BoardLine.Until b.until)
+SettingFits b LineKind.Entries = FitsLine 0 (BoardLine.Entries b.entries)
+SettingFits b LineKind.LpMax = FitsLine 0 (BoardLine.LpMax b.lpmax)
+SettingFits b LineKind.Thresh = FitsLine 0 (BoardLine.Thresh b.thresh)
+SettingFits b LineKind.LpClock = FitsLine 0 (BoardLine.LpClock b.lp_h b.lp_q)
+SettingFits b LineKind.DefaultMode = FitsLine 0 (BoardLine.DefaultMode b.default_mode)
+SettingFits b LineKind.Schedule = FitsSchedule b.schedule × (is_schedule_beyond b.cores b.schedule ≡ false)
+SettingFits b LineKind.Shell = OwnFits b.levels b.shell
+SettingFits b LineKind.Soft = OwnFits b.levels b.soft
+SettingFits b LineKind.Limit = (b.limits.sem ≤ limit_top LimitClass.Sem) × (b.limits.event ≤ limit_top LimitClass.Event) × (b.limits.mutex ≤ limit_top LimitClass.Mutex)
+SettingFits b _ = Unit {0}
+
 abbrev SettingsFit : PlainBoard → Type 0
-SettingsFit b = FitsLine 0 (BoardLine.Cores b.cores) × FitsLine 0 (BoardLine.Levels b.levels) × FitsLine 0 (BoardLine.Until b.until) × FitsLine 0 (BoardLine.Entries b.entries) × FitsLine 0 (BoardLine.LpMax b.lpmax) × FitsLine 0 (BoardLine.Thresh b.thresh) × FitsSchedule b.schedule × (is_schedule_beyond b.cores b.schedule ≡ false) × ShellFits b.levels b.shell × (b.limits.sem ≤ 64) × (b.limits.event ≤ 64) × (b.limits.mutex ≤ 256)
+SettingsFit b = (k : LineKind) → SettingFits b k
 
-abbrev ObjectsGrow : PlainBoard → Type 0
-ObjectsGrow b = SemsGrow b × EventsGrow b × MutexesGrow b × MailboxesGrow b × QueuesGrow b × DevicesGrow b × TimersGrow b × ThreadsGrow b × ArrivalsGrow b
-
--- there are no objects, threads and arrivals
-abbrev HasNone : PlainBoard → Type 0
-HasNone b = (b.sems ≡ []) × (b.events ≡ []) × (b.mutexes ≡ []) × (b.mailboxes ≡ []) × (b.queues ≡ []) × (b.devices ≡ []) × (b.timers ≡ []) × (b.threads ≡ []) × (b.arrivals ≡ [])
+-- the settings alone
+abbrev settings_of : PlainBoard → PlainBoard
+settings_of b = record b { sems = []; events = []; mutexes = []; mailboxes = []; queues = []; pools = []; devices = []; timers = []; threads = []; arrivals = [] }
 
 nothing : {A : Type 0} (P : List A → A → Type 0) (xs : List A) → xs ≡ [] → Grows P [] xs
 nothing P xs e = subst (Grows P []) (sym e) tt
 
-none_grow : (b : PlainBoard) → HasNone b → ObjectsGrow b
-none_grow b h = (
-  nothing (λ front x. Suits (record b { sems = front }) (BoardLine.Sem x)) b.sems h.0,
-  nothing (λ front x. Suits (record b { events = front }) (BoardLine.Event x)) b.events h.1,
-  nothing (λ front x. Suits (record b { mutexes = front }) (BoardLine.Mutex x)) b.mutexes h.2,
-  nothing (λ front x. Suits (record b { mailboxes = front }) (BoardLine.Mailbox x)) b.mailboxes h.3,
-  nothing (λ front x. Suits (record b { queues = front }) (BoardLine.Queue x)) b.queues h.4,
-  nothing (λ front x. Suits (record b { devices = front }) (BoardLine.Device x)) b.devices h.5,
-  nothing (λ front x. Suits (record b { timers = front }) (BoardLine.Timer x)) b.timers h.6,
-  nothing (ThreadGrows b) b.threads h.7,
-  nothing (λ front x. Suits (record b { arrivals = front }) (BoardLine.Arrive x)) b.arrivals h.8,
-)
+none_grow : (b : PlainBoard) → settings_of b ≡ b → ObjectsGrow b
+none_grow b e = subst ObjectsGrow e none where
+  none : ObjectsGrow (settings_of b)
+  none LineKind.Sem = tt
+  none _ = tt
+
+-- the rank of a kind of lines
+abbrev rank_of : LineKind → ℕ
+rank_of k = (line_row 0 k).rank
+
+-- the lines up to this rank come once
+abbrev last_once : ℕ
+last_once = rank_of LineKind.Soft
 
 -- what of higher ranks isn't there yet
 record IsBare (s : SoFar) : Type 0 where
-  none : s.rank < 13 → HasNone s.board
-  arrivals : s.rank < 21 → s.board.arrivals ≡ []
-  shell : s.rank < 11 → s.board.shell ≡ None
-  schedule : s.rank < 10 → s.board.schedule ≡ Schedule.Round
+  objects : s.rank < rank_of LineKind.Sem → settings_of s.board ≡ s.board
+  arrivals : s.rank < rank_of LineKind.Arrive → s.board.arrivals ≡ []
+  soft : s.rank < rank_of LineKind.Soft → s.board.soft ≡ None
+  shell : s.rank < rank_of LineKind.Shell → s.board.shell ≡ None
+  schedule : s.rank < rank_of LineKind.Schedule → s.board.schedule ≡ Schedule.Round
 
 record IsFine (s : SoFar) : Type 0 where
   settings : SettingsFit s.board
@@ -132,11 +142,26 @@ record IsFine (s : SoFar) : Type 0 where
 small_range : (n low high : ℕ) → low ≤ n → n ≤ high → n < 4294967296 → (low ≤ n) × (n ≤ high) × (n < 2 ^ 32)
 small_range n low high a b c = (a, b, c)
 
+settings-start : SettingsFit default_board
+settings-start LineKind.Cores = (small_range 1 1 8 (omega arith) (omega arith) (omega arith), tt)
+settings-start LineKind.Levels = (refl, tt)
+settings-start LineKind.Tickless = (tt, tt)
+settings-start LineKind.Tick0 = (small_range 0 0 4294967295 (omega arith) (omega arith) (omega arith), tt)
+settings-start LineKind.Until = ((omega arith, omega arith), tt)
+settings-start LineKind.Entries = (small_range 1000000 1 1000000 (omega arith) (omega arith) (omega arith), tt)
+settings-start LineKind.LpMax = (small_range 2147483647 1 2147483647 (omega arith) (omega arith) (omega arith), tt)
+settings-start LineKind.Thresh = (small_range 2 1 2147483647 (omega arith) (omega arith) (omega arith), tt)
+settings-start LineKind.LpClock = (small_range 1 1 1000000 (omega arith) (omega arith) (omega arith), (small_range 1 1 1000 (omega arith) (omega arith) (omega arith), tt))
+settings-start LineKind.DefaultMode = (tt, tt)
+settings-start LineKind.Schedule = (tt, refl)
+settings-start LineKind.Limit = (omega arith, omega arith, omega arith)
+settings-start _ = tt
+
 fine-start : IsFine start
 fine-start = record {
-  settings = ((small_range 1 1 8 (omega arith) (omega arith) (omega arith), tt), (refl, tt), (small_range 4294967295 1 4294967295 (omega arith) (omega arith) (omega arith), tt), (small_range 1000000 1 1000000 (omega arith) (omega arith) (omega arith), tt), (small_range 2147483647 1 2147483647 (omega arith) (omega arith) (omega arith), tt), (small_range 2 1 2147483647 (omega arith) (omega arith) (omega arith), tt), tt, refl, tt, omega arith, omega arith, omega arith);
-  objects = none_grow default_board (refl, refl, refl, refl, refl, refl, refl, refl, refl);
-  bare = record { none = λ lt. (refl, refl, refl, refl, refl, refl, refl, refl, refl); arrivals = λ lt. refl; shell = λ lt. refl; schedule = λ lt. refl };
+  settings = settings-start;
+  objects = none_grow default_board refl;
+  bare = record { objects = λ lt. refl; arrivals = λ lt. refl; soft = λ lt. refl; shell = λ lt. refl; schedule = λ lt. refl };
 }
 
 -- ---- one line more
@@ -145,11 +170,11 @@ neither : (a b : Bool) → (a || b) ≡ false → (a ≡ false) × (b ≡ false)
 neither true b e = absurd cc
 neither false b e = (refl, e)
 
-in_order : (k r : ℕ) → (ltb k r || (leb k 11 && eqb k r)) ≡ false → r ≤ k
-in_order k r e = ltb-false k r (neither (ltb k r) (leb k 11 && eqb k r) e).0
+in_order : (k r : ℕ) → (ltb k r || (leb k last_once && eqb k r)) ≡ false → r ≤ k
+in_order k r e = ltb-false k r (neither (ltb k r) (leb k last_once && eqb k r) e).0
 
-at_thread : (r : ℕ) → not (eqb r 20) ≡ false → r ≡ 20
-at_thread r e = eqb-true r 20 (not-false _ e)
+at_thread : (r : ℕ) → not (eqb r (rank_of LineKind.Thread)) ≡ false → r ≡ rank_of LineKind.Thread
+at_thread r e = eqb-true r (rank_of LineKind.Thread) (not-false _ e)
 
 -- ranks never fall
 rank_grows : (s : SoFar) (l : BoardLine) → Stands s l → s.rank ≤ (after s l).rank
@@ -159,101 +184,115 @@ rank_grows s (BoardLine.Statement x) h = let e = at_thread s.rank h.order in ome
 rank_grows s l h = in_order (row (kind_of l)).rank s.rank h.order
 
 -- a setting that comes once
-once_more : (k r : ℕ) → k ≤ 11 → (ltb k r || (leb k 11 && eqb k r)) ≡ false → r < k
+once_more : (k r : ℕ) → k ≤ last_once → (ltb k r || (leb k last_once && eqb k r)) ≡ false → r < k
 once_more k r small e =
-    let p = neither (ltb k r) (leb k 11 && eqb k r) e in
+    let p = neither (ltb k r) (leb k last_once && eqb k r) e in
     let le = ltb-false k r p.0 in
-    elim (and_cases (leb k 11) (eqb k r) p.1) [
-      | inl f ↦ absurd (let n = leb-false k 11 f in omega arith)
+    elim (and_cases (leb k last_once) (eqb k r) p.1) [
+      | inl f ↦ absurd (let n = leb-false k last_once f in omega arith)
       | inr f ↦ (let n = eqb-false k r f in omega arith)
     ]
 
-abbrev keeps : SoFar → SoFar → Type 0
-keeps s t = (HasNone s.board → HasNone t.board) × (s.board.arrivals ≡ [] → t.board.arrivals ≡ [])
+arrivals-after : (s : SoFar) (l : BoardLine) → (s.rank < rank_of LineKind.Arrive → s.board.arrivals ≡ []) → s.rank ≤ (after s l).rank → (after s l).rank < rank_of LineKind.Arrive → (after s l).board.arrivals ≡ []
+unfolding row
+arrivals-after s (BoardLine.Arrive a) h le lt = absurd (omega arith)
+arrivals-after s l h le lt = h (omega arith)
 
--- a setting below the schedule
-early : (s t : SoFar) → IsBare s → s.rank ≤ t.rank → t.rank < 10 → keeps s t → t.board.shell ≡ s.board.shell → t.board.schedule ≡ s.board.schedule → IsBare t
-early s t h le small k e f = record {
-  none = λ lt. k.0 (h.none (omega arith));
-  arrivals = λ lt. k.1 (h.arrivals (omega arith));
-  shell = λ lt. e ∙ h.shell (omega arith);
-  schedule = λ lt. f ∙ h.schedule (omega arith);
-}
+soft-after : (s : SoFar) (l : BoardLine) → (s.rank < rank_of LineKind.Soft → s.board.soft ≡ None) → s.rank ≤ (after s l).rank → (after s l).rank < rank_of LineKind.Soft → (after s l).board.soft ≡ None
+unfolding row
+soft-after s (BoardLine.Soft p) h le lt = absurd (omega arith)
+soft-after s l h le lt = h (omega arith)
 
--- a line above the settings
-late : (s t : SoFar) → IsBare s → s.rank ≤ t.rank → 13 ≤ t.rank → (t.rank < 21 → s.board.arrivals ≡ [] → t.board.arrivals ≡ []) → IsBare t
-late s t h le big k = record {
-  none = λ lt. absurd (omega arith);
-  arrivals = λ lt. k lt (h.arrivals (omega arith));
-  shell = λ lt. absurd (omega arith);
-  schedule = λ lt. absurd (omega arith);
-}
+shell-after : (s : SoFar) (l : BoardLine) → (s.rank < rank_of LineKind.Shell → s.board.shell ≡ None) → s.rank ≤ (after s l).rank → (after s l).rank < rank_of LineKind.Shell → (after s l).board.shell ≡ None
+unfolding row
+shell-after s (BoardLine.Shell p) h le lt = absurd (omega arith)
+shell-after s l h le lt = h (omega arith)
+
+schedule-after : (s : SoFar) (l : BoardLine) → (s.rank < rank_of LineKind.Schedule → s.board.schedule ≡ Schedule.Round) → s.rank ≤ (after s l).rank → (after s l).rank < rank_of LineKind.Schedule → (after s l).board.schedule ≡ Schedule.Round
+unfolding row
+schedule-after s (BoardLine.Schedule x) h le lt = absurd (omega arith)
+schedule-after s l h le lt = h (omega arith)
+
+-- no line of a setting adds an object
+bare_objects-after : (s : SoFar) (l : BoardLine) → (s.rank < rank_of LineKind.Sem → settings_of s.board ≡ s.board) → s.rank ≤ (after s l).rank → (after s l).rank < rank_of LineKind.Sem → settings_of (after s l).board ≡ (after s l).board
+unfolding row
+bare_objects-after s (BoardLine.Sem x) h le lt = absurd (omega arith)
+bare_objects-after s (BoardLine.Event x) h le lt = absurd (omega arith)
+bare_objects-after s (BoardLine.Mutex x) h le lt = absurd (omega arith)
+bare_objects-after s (BoardLine.Mailbox x) h le lt = absurd (omega arith)
+bare_objects-after s (BoardLine.Queue x) h le lt = absurd (omega arith)
+bare_objects-after s (BoardLine.Pool x) h le lt = absurd (omega arith)
+bare_objects-after s (BoardLine.Device x) h le lt = absurd (omega arith)
+bare_objects-after s (BoardLine.Timer x) h le lt = absurd (omega arith)
+bare_objects-after s (BoardLine.Thread x) h le lt = absurd (omega arith)
+bare_objects-after s (BoardLine.Arrive x) h le lt = absurd (omega arith)
+bare_objects-after s (BoardLine.Statement x) h le lt = absurd (omega arith)
+bare_objects-after s l h le lt = ap (λ (b : PlainBoard). added b l) (h (omega arith))
 
 bare-after : (s : SoFar) (l : BoardLine) → IsBare s → Stands s l → IsBare (after s l)
-unfolding row
-bare-after s (BoardLine.Version n) h st = early s (after s (BoardLine.Version n)) h (rank_grows s (BoardLine.Version n) st) (omega arith) ((λ x. x), (λ x. x)) refl refl
-bare-after s (BoardLine.Cores n) h st = early s (after s (BoardLine.Cores n)) h (rank_grows s (BoardLine.Cores n) st) (omega arith) ((λ x. x), (λ x. x)) refl refl
-bare-after s (BoardLine.Levels n) h st = early s (after s (BoardLine.Levels n)) h (rank_grows s (BoardLine.Levels n) st) (omega arith) ((λ x. x), (λ x. x)) refl refl
-bare-after s (BoardLine.Tickless n) h st = early s (after s (BoardLine.Tickless n)) h (rank_grows s (BoardLine.Tickless n) st) (omega arith) ((λ x. x), (λ x. x)) refl refl
-bare-after s (BoardLine.Until n) h st = early s (after s (BoardLine.Until n)) h (rank_grows s (BoardLine.Until n) st) (omega arith) ((λ x. x), (λ x. x)) refl refl
-bare-after s (BoardLine.Entries n) h st = early s (after s (BoardLine.Entries n)) h (rank_grows s (BoardLine.Entries n) st) (omega arith) ((λ x. x), (λ x. x)) refl refl
-bare-after s (BoardLine.LpMax n) h st = early s (after s (BoardLine.LpMax n)) h (rank_grows s (BoardLine.LpMax n) st) (omega arith) ((λ x. x), (λ x. x)) refl refl
-bare-after s (BoardLine.Thresh n) h st = early s (after s (BoardLine.Thresh n)) h (rank_grows s (BoardLine.Thresh n) st) (omega arith) ((λ x. x), (λ x. x)) refl refl
-bare-after s (BoardLine.DefaultMode n) h st = early s (after s (BoardLine.DefaultMode n)) h (rank_grows s (BoardLine.DefaultMode n) st) (omega arith) ((λ x. x), (λ x. x)) refl refl
-bare-after s (BoardLine.Schedule n) h st =
-    let le = rank_grows s (BoardLine.Schedule n) st in
-    record { none = λ lt. h.none (omega arith); arrivals = λ lt. h.arrivals (omega arith); shell = λ lt. h.shell (omega arith); schedule = λ lt. absurd (omega arith) }
-bare-after s (BoardLine.Shell p) h st =
-    let le = rank_grows s (BoardLine.Shell p) st in
-    record { none = λ lt. h.none (omega arith); arrivals = λ lt. h.arrivals (omega arith); shell = λ lt. absurd (omega arith); schedule = λ lt. absurd (omega arith) }
-bare-after s (BoardLine.Limit class n) h st =
-    let le = rank_grows s (BoardLine.Limit class n) st in
-    record { none = λ lt. h.none (omega arith); arrivals = λ lt. h.arrivals (omega arith); shell = λ lt. absurd (omega arith); schedule = λ lt. absurd (omega arith) }
-bare-after s (BoardLine.Arrive a) h st = late s (after s (BoardLine.Arrive a)) h (rank_grows s (BoardLine.Arrive a) st) (omega arith) (λ lt e. absurd (omega arith))
-bare-after s (BoardLine.Statement x) h st = late s (after s (BoardLine.Statement x)) h (rank_grows s (BoardLine.Statement x) st) (omega arith) (λ lt e. e)
-bare-after s l h st = late s (after s l) h (rank_grows s l st) (omega arith) (λ lt e. e)
+bare-after s l h st =
+    let le = rank_grows s l st in
+    record {
+      objects = bare_objects-after s l h.objects le;
+      arrivals = arrivals-after s l h.arrivals le;
+      soft = soft-after s l h.soft le;
+      shell = shell-after s l h.shell le;
+      schedule = schedule-after s l h.schedule le;
+    }
 
-limit_fits : (levels n : ℕ) (class : LimitClass) → FitsLine levels (BoardLine.Limit class n) → n ≤ limit_top class
-limit_fits levels n class h = h
-
-shell_none : (levels : ℕ) (p : Option ℕ) → p ≡ None → ShellFits levels p
-shell_none levels p e = subst (ShellFits levels) (sym e) tt
+own_none : (levels : ℕ) (p : Option ℕ) → p ≡ None → OwnFits levels p
+own_none levels p e = subst (OwnFits levels) (sym e) tt
 
 round_known : (cores : ℕ) (x : Schedule) → x ≡ Schedule.Round → is_schedule_beyond cores x ≡ false
 round_known cores x e = ap (is_schedule_beyond cores) e
 
 settings-after : (s : SoFar) (l : BoardLine) → SettingsFit s.board → IsBare s → Stands s l → SettingsFit (added s.board l)
 unfolding row
-settings-after s (BoardLine.Cores n) h b st = (st.fits, h.1, h.2, h.3, h.4, h.5, h.6, (let lt = once_more 2 s.rank (omega arith) st.order in round_known n s.board.schedule (b.schedule (omega arith))), h.8, h.9, h.10, h.11)
-settings-after s (BoardLine.Levels n) h b st = (h.0, st.fits, h.2, h.3, h.4, h.5, h.6, h.7, (let lt = once_more 3 s.rank (omega arith) st.order in shell_none n s.board.shell (b.shell (omega arith))), h.9, h.10, h.11)
-settings-after s (BoardLine.Until n) h b st = (h.0, h.1, st.fits, h.3, h.4, h.5, h.6, h.7, h.8, h.9, h.10, h.11)
-settings-after s (BoardLine.Entries n) h b st = (h.0, h.1, h.2, st.fits, h.4, h.5, h.6, h.7, h.8, h.9, h.10, h.11)
-settings-after s (BoardLine.LpMax n) h b st = (h.0, h.1, h.2, h.3, st.fits, h.5, h.6, h.7, h.8, h.9, h.10, h.11)
-settings-after s (BoardLine.Thresh n) h b st = (h.0, h.1, h.2, h.3, h.4, st.fits, h.6, h.7, h.8, h.9, h.10, h.11)
-settings-after s (BoardLine.Schedule n) h b st = (h.0, h.1, h.2, h.3, h.4, h.5, st.fits, st.known, h.8, h.9, h.10, h.11)
-settings-after s (BoardLine.Shell p) h b st = (h.0, h.1, h.2, h.3, h.4, h.5, h.6, h.7, st.fits, h.9, h.10, h.11)
-settings-after s (BoardLine.Limit LimitClass.Sem n) h b st = (h.0, h.1, h.2, h.3, h.4, h.5, h.6, h.7, h.8, st.fits, h.10, h.11)
-settings-after s (BoardLine.Limit LimitClass.Event n) h b st = (h.0, h.1, h.2, h.3, h.4, h.5, h.6, h.7, h.8, h.9, st.fits, h.11)
-settings-after s (BoardLine.Limit LimitClass.Mutex n) h b st = (h.0, h.1, h.2, h.3, h.4, h.5, h.6, h.7, h.8, h.9, h.10, st.fits)
-settings-after s l h b st = h
+settings-after s (BoardLine.Cores n) h b st LineKind.Cores = st.fits
+settings-after s (BoardLine.Cores n) h b st LineKind.Schedule = ((h LineKind.Schedule).0, (let lt = once_more (rank_of LineKind.Cores) s.rank (omega arith) st.order in round_known n s.board.schedule (b.schedule (omega arith))))
+settings-after s (BoardLine.Levels n) h b st LineKind.Levels = st.fits
+settings-after s (BoardLine.Levels n) h b st LineKind.Shell = (let lt = once_more (rank_of LineKind.Levels) s.rank (omega arith) st.order in own_none n s.board.shell (b.shell (omega arith)))
+settings-after s (BoardLine.Levels n) h b st LineKind.Soft = (let lt = once_more (rank_of LineKind.Levels) s.rank (omega arith) st.order in own_none n s.board.soft (b.soft (omega arith)))
+settings-after s (BoardLine.Tick0 n) h b st LineKind.Tick0 = st.fits
+settings-after s (BoardLine.Until n) h b st LineKind.Until = st.fits
+settings-after s (BoardLine.Entries n) h b st LineKind.Entries = st.fits
+settings-after s (BoardLine.LpMax n) h b st LineKind.LpMax = st.fits
+settings-after s (BoardLine.Thresh n) h b st LineKind.Thresh = st.fits
+settings-after s (BoardLine.LpClock n m) h b st LineKind.LpClock = st.fits
+settings-after s (BoardLine.Schedule n) h b st LineKind.Schedule = (st.fits, st.known)
+settings-after s (BoardLine.Shell p) h b st LineKind.Shell = st.fits
+settings-after s (BoardLine.Soft p) h b st LineKind.Soft = st.fits
+settings-after s (BoardLine.Limit LimitClass.Sem n) h b st LineKind.Limit = (st.fits, (h LineKind.Limit).1, (h LineKind.Limit).2)
+settings-after s (BoardLine.Limit LimitClass.Event n) h b st LineKind.Limit = ((h LineKind.Limit).0, st.fits, (h LineKind.Limit).2)
+settings-after s (BoardLine.Limit LimitClass.Mutex n) h b st LineKind.Limit = ((h LineKind.Limit).0, (h LineKind.Limit).1, st.fits)
+settings-after s l h b st k = h k
 
 objects-after : (s : SoFar) (l : BoardLine) → ObjectsGrow s.board → IsBare s → Stands s l → ObjectsGrow (added s.board l)
 unfolding row
-objects-after s (BoardLine.Cores n) h b st = let lt = once_more 2 s.rank (omega arith) st.order in none_grow (added s.board (BoardLine.Cores n)) (b.none (omega arith))
-objects-after s (BoardLine.Levels n) h b st = let lt = once_more 3 s.rank (omega arith) st.order in none_grow (added s.board (BoardLine.Levels n)) (b.none (omega arith))
-objects-after s (BoardLine.Shell p) h b st = let lt = once_more 11 s.rank (omega arith) st.order in none_grow (added s.board (BoardLine.Shell p)) (b.none (omega arith))
-objects-after s (BoardLine.Limit class n) h b st = let le = rank_grows s (BoardLine.Limit class n) st in none_grow (added s.board (BoardLine.Limit class n)) (b.none (omega arith))
-objects-after s (BoardLine.Sem x) h b st = (push (λ front y. Suits (record s.board { sems = front }) (BoardLine.Sem y)) [] s.board.sems x h.0 (suits s (BoardLine.Sem x) st), h.1, h.2, h.3, h.4, h.5, h.6, h.7, h.8)
-objects-after s (BoardLine.Event x) h b st = (h.0, push (λ front y. Suits (record s.board { events = front }) (BoardLine.Event y)) [] s.board.events x h.1 (suits s (BoardLine.Event x) st), h.2, h.3, h.4, h.5, h.6, h.7, h.8)
-objects-after s (BoardLine.Mutex x) h b st = (h.0, h.1, push (λ front y. Suits (record s.board { mutexes = front }) (BoardLine.Mutex y)) [] s.board.mutexes x h.2 (suits s (BoardLine.Mutex x) st), h.3, h.4, h.5, h.6, h.7, h.8)
-objects-after s (BoardLine.Mailbox x) h b st = (h.0, h.1, h.2, push (λ front y. Suits (record s.board { mailboxes = front }) (BoardLine.Mailbox y)) [] s.board.mailboxes x h.3 (suits s (BoardLine.Mailbox x) st), h.4, h.5, h.6, h.7, h.8)
-objects-after s (BoardLine.Queue x) h b st = (h.0, h.1, h.2, h.3, push (λ front y. Suits (record s.board { queues = front }) (BoardLine.Queue y)) [] s.board.queues x h.4 (suits s (BoardLine.Queue x) st), h.5, h.6, h.7, h.8)
-objects-after s (BoardLine.Device x) h b st = (h.0, h.1, h.2, h.3, h.4, push (λ front y. Suits (record s.board { devices = front }) (BoardLine.Device y)) [] s.board.devices x h.5 (suits s (BoardLine.Device x) st), h.6, h.7, (let le = rank_grows s (BoardLine.Device x) st in nothing (λ front y. Suits (record s.board { devices = s.board.devices ++ x ∷ []; arrivals = front }) (BoardLine.Arrive y)) s.board.arrivals (b.arrivals (omega arith))))
-objects-after s (BoardLine.Timer x) h b st = (h.0, h.1, h.2, h.3, h.4, h.5, push (λ front y. Suits (record s.board { timers = front }) (BoardLine.Timer y)) [] s.board.timers x h.6 (suits s (BoardLine.Timer x) st), h.7, h.8)
-objects-after s (BoardLine.Thread x) h b st = (h.0, h.1, h.2, h.3, h.4, h.5, h.6, push (ThreadGrows s.board) [] s.board.threads (unscripted x) h.7 (suits s (BoardLine.Thread x) st, tt), h.8)
-objects-after s (BoardLine.Statement x) h b st = (h.0, h.1, h.2, h.3, h.4, h.5, h.6, push_statement s.board [] s.board.threads x h.7 (suits s (BoardLine.Statement x) st), h.8)
-objects-after s (BoardLine.Arrive x) h b st = (h.0, h.1, h.2, h.3, h.4, h.5, h.6, h.7, push (λ front y. Suits (record s.board { arrivals = front }) (BoardLine.Arrive y)) [] s.board.arrivals x h.8 (suits s (BoardLine.Arrive x) st))
-objects-after s l h b st = h
+objects-after s (BoardLine.Sem x) h b st LineKind.Sem = push (λ front y. Suits (record s.board { sems = front }) (BoardLine.Sem y)) [] s.board.sems x (h LineKind.Sem) (suits s (BoardLine.Sem x) st)
+objects-after s (BoardLine.Sem x) h b st k = h k
+objects-after s (BoardLine.Event x) h b st LineKind.Event = push (λ front y. Suits (record s.board { events = front }) (BoardLine.Event y)) [] s.board.events x (h LineKind.Event) (suits s (BoardLine.Event x) st)
+objects-after s (BoardLine.Event x) h b st k = h k
+objects-after s (BoardLine.Mutex x) h b st LineKind.Mutex = push (λ front y. Suits (record s.board { mutexes = front }) (BoardLine.Mutex y)) [] s.board.mutexes x (h LineKind.Mutex) (suits s (BoardLine.Mutex x) st)
+objects-after s (BoardLine.Mutex x) h b st k = h k
+objects-after s (BoardLine.Mailbox x) h b st LineKind.Mailbox = push (λ front y. Suits (record s.board { mailboxes = front }) (BoardLine.Mailbox y)) [] s.board.mailboxes x (h LineKind.Mailbox) (suits s (BoardLine.Mailbox x) st)
+objects-after s (BoardLine.Mailbox x) h b st k = h k
+objects-after s (BoardLine.Queue x) h b st LineKind.Queue = push (λ front y. Suits (record s.board { queues = front }) (BoardLine.Queue y)) [] s.board.queues x (h LineKind.Queue) (suits s (BoardLine.Queue x) st)
+objects-after s (BoardLine.Queue x) h b st k = h k
+objects-after s (BoardLine.Pool x) h b st LineKind.Pool = push (λ front y. Suits (record s.board { pools = front }) (BoardLine.Pool y)) [] s.board.pools x (h LineKind.Pool) (suits s (BoardLine.Pool x) st)
+objects-after s (BoardLine.Pool x) h b st k = h k
+objects-after s (BoardLine.Device x) h b st LineKind.Device = push (λ front y. Suits (record s.board { devices = front }) (BoardLine.Device y)) [] s.board.devices x (h LineKind.Device) (suits s (BoardLine.Device x) st)
+objects-after s (BoardLine.Device x) h b st LineKind.Arrive = let le = rank_grows s (BoardLine.Device x) st in nothing (λ front y. Suits (record s.board { devices = s.board.devices ++ x ∷ []; arrivals = front }) (BoardLine.Arrive y)) s.board.arrivals (b.arrivals (omega arith))
+objects-after s (BoardLine.Device x) h b st k = h k
+objects-after s (BoardLine.Timer x) h b st LineKind.Timer = push (λ front y. Suits (record s.board { timers = front }) (BoardLine.Timer y)) [] s.board.timers x (h LineKind.Timer) (suits s (BoardLine.Timer x) st)
+objects-after s (BoardLine.Timer x) h b st k = h k
+objects-after s (BoardLine.Thread x) h b st LineKind.Thread = push (ThreadGrows s.board) [] s.board.threads (unscripted x) (h LineKind.Thread) (suits s (BoardLine.Thread x) st, tt)
+objects-after s (BoardLine.Thread x) h b st k = h k
+objects-after s (BoardLine.Statement x) h b st LineKind.Thread = push_statement s.board [] s.board.threads x (h LineKind.Thread) (suits s (BoardLine.Statement x) st)
+objects-after s (BoardLine.Statement x) h b st k = h k
+objects-after s (BoardLine.Arrive x) h b st LineKind.Arrive = push (λ front y. Suits (record s.board { arrivals = front }) (BoardLine.Arrive y)) [] s.board.arrivals x (h LineKind.Arrive) (suits s (BoardLine.Arrive x) st)
+objects-after s (BoardLine.Arrive x) h b st k = h k
+objects-after s l h b st k = let le = rank_grows s l st in none_grow (added s.board l) (ap (λ (c : PlainBoard). added c l) (b.objects (omega arith))) k
 
 fine-after : (s : SoFar) (l : BoardLine) → IsFine s → Stands s l → IsFine (after s l)
 fine-after s l h st = record { settings = settings-after s l h.settings h.bare st; objects = objects-after s l h.objects h.bare st; bare = bare-after s l h.bare st }
@@ -271,26 +310,32 @@ stand s l h head order limit = record { fits = h.0; head = head; order = order; 
 settings_stand : (b : PlainBoard) → SettingsFit b → AllStand start (setting_lines b)
 unfolding row
 settings_stand b h = (
-  record { fits = (small_range 1 1 1 (omega arith) (omega arith) (omega arith), tt); head = refl; order = refl; limit = refl; once = refl; room = refl; known = refl },
+  stand _ _ ((small_range 1 1 1 (omega arith) (omega arith) (omega arith), tt), refl, refl, refl) refl refl refl,
   (
-    record { fits = h.0; head = refl; order = refl; limit = refl; once = refl; room = refl; known = refl },
+    stand _ _ (h LineKind.Cores, refl, refl, refl) refl refl refl,
     (
-      record { fits = h.1; head = refl; order = refl; limit = refl; once = refl; room = refl; known = refl },
+      stand _ _ (h LineKind.Levels, refl, refl, refl) refl refl refl,
       (
-        record { fits = (tt, tt); head = refl; order = refl; limit = refl; once = refl; room = refl; known = refl },
+        stand _ _ (h LineKind.Tickless, refl, refl, refl) refl refl refl,
         (
-          record { fits = h.2; head = refl; order = refl; limit = refl; once = refl; room = refl; known = refl },
+          stand _ _ (h LineKind.Tick0, refl, refl, refl) refl refl refl,
           (
-            record { fits = h.3; head = refl; order = refl; limit = refl; once = refl; room = refl; known = refl },
+            stand _ _ (h LineKind.Until, refl, refl, refl) refl refl refl,
             (
-              record { fits = h.4; head = refl; order = refl; limit = refl; once = refl; room = refl; known = refl },
+              stand _ _ (h LineKind.Entries, refl, refl, refl) refl refl refl,
               (
-                record { fits = h.5; head = refl; order = refl; limit = refl; once = refl; room = refl; known = refl },
+                stand _ _ (h LineKind.LpMax, refl, refl, refl) refl refl refl,
                 (
-                  record { fits = (tt, tt); head = refl; order = refl; limit = refl; once = refl; room = refl; known = refl },
+                  stand _ _ (h LineKind.Thresh, refl, refl, refl) refl refl refl,
                   (
-                    record { fits = h.6; head = refl; order = refl; limit = refl; once = refl; room = refl; known = h.7 },
-                    tt,
+                    stand _ _ (h LineKind.LpClock, refl, refl, refl) refl refl refl,
+                    (
+                      stand _ _ (h LineKind.DefaultMode, refl, refl, refl) refl refl refl,
+                      (
+                        stand _ _ ((h LineKind.Schedule).0, refl, refl, (h LineKind.Schedule).1) refl refl refl,
+                        tt,
+                      ),
+                    ),
                   ),
                 ),
               ),
@@ -306,180 +351,174 @@ all-append : (s : SoFar) (ls ms : List BoardLine) → AllStand s ls → AllStand
 all-append s [] ms h k = k
 all-append s (l ∷ ls) ms h k = (h.0, all-append (after s l) ls ms h.1 k)
 
--- the shell's line comes next, where there is one
--- the order of a line behind one of no higher rank
-later : (k r : ℕ) → r ≤ k → 12 ≤ k → (ltb k r || (leb k 11 && eqb k r)) ≡ false
-later k r le big = let small : leb k 11 ≡ false = lt-leb k 11 (omega arith) in rw (le-ltb k r le, small) refl
+-- ---- what stands behind the settings, piece by piece
 
-shell_stands : (levels : ℕ) (s : SoFar) (p : Option ℕ) → s.board.levels ≡ levels → s.board.shell ≡ None → s.rank ≡ 10 → ShellFits levels p → AllStand s (shell_lines p) × ((after_all s (shell_lines p)).board ≡ record s.board { shell = p }) × (1 ≤ (after_all s (shell_lines p)).rank) × ((after_all s (shell_lines p)).rank ≤ 11) × ((after_all s (shell_lines p)).limited ≡ s.limited)
-unfolding row
-shell_stands levels s None e n r h = (tt, ap (λ (q : Option ℕ). record s.board { shell = q }) n, omega arith, omega arith, refl)
-shell_stands levels s (Some p) e n r h =
-    let order : is_out_of_order s (row (kind_of (BoardLine.Shell p))) ≡ false = ap (λ (k : ℕ). ltb 11 k || (true && eqb 11 k)) r in
-    let head : (eqb s.rank 0 && true) ≡ false = ap (λ (k : ℕ). eqb k 0 && true) r in
-    ((stand s (BoardLine.Shell p) (subst (λ k. FitsLine k (BoardLine.Shell p)) (sym e) h, refl, refl, refl) head order refl, tt), refl, omega arith, omega arith, refl)
+-- a reader behind the settings: the board so far, a rank that it hasn't passed, and no limit before the limits' lines
+record At (s : SoFar) (b : PlainBoard) (rank : ℕ) : Type 0 where
+  board : s.board ≡ b
+  begun : 1 ≤ s.rank
+  within : s.rank ≤ rank
+  unlimited : s.rank < rank_of LineKind.Limit → s.limited ≡ 0
 
--- then the limits
-limits_stand : (b : PlainBoard) (s : SoFar) → s.limited ≡ 0 → 1 ≤ s.rank → s.rank ≤ 11 → b.limits.sem ≤ 64 → b.limits.event ≤ 64 → b.limits.mutex ≤ 256 → AllStand s (limit_lines b)
-unfolding row
-limits_stand b s z low high x y w =
-    let head : (eqb s.rank 0 && true) ≡ false = rw (ne_eqb s.rank 0 (λ e. absurd (omega arith))) refl in
-    let order : is_out_of_order s (row (kind_of (BoardLine.Limit LimitClass.Sem b.limits.sem))) ≡ false = later 12 s.rank (omega arith) (omega arith) in
-    let first : is_passed_limit s.limited (BoardLine.Limit LimitClass.Sem b.limits.sem) ≡ false = ap (λ (k : ℕ). leb 1 k) z in (
-      stand s (BoardLine.Limit LimitClass.Sem b.limits.sem) (x, refl, refl, refl) head order first,
-      (
-        stand (after s (BoardLine.Limit LimitClass.Sem b.limits.sem)) (BoardLine.Limit LimitClass.Event b.limits.event) (y, refl, refl, refl) refl refl refl,
-        (
-          stand (after (after s (BoardLine.Limit LimitClass.Sem b.limits.sem)) (BoardLine.Limit LimitClass.Event b.limits.event)) (BoardLine.Limit LimitClass.Mutex b.limits.mutex) (w, refl, refl, refl) refl refl refl,
-          tt,
-        ),
-      ),
-    )
+-- lines that lead from one board and rank to another
+record Leads (low high : ℕ) (ls : List BoardLine) (a b : PlainBoard) : Type 0 where
+  stand : (s : SoFar) → At s a low → AllStand s ls
+  there : (s : SoFar) → At s a low → At (after_all s ls) b high
 
--- what is read after lines of objects: a board, a rank, and no limit to come
-record Reaches (s : SoFar) (ls : List BoardLine) (b : PlainBoard) (rank : ℕ) : Type 0 where
-  stand : AllStand s ls
-  board : (after_all s ls).board ≡ b
-  low : 12 ≤ (after_all s ls).rank
-  high : (after_all s ls).rank ≤ rank
-
--- the lines of one class
-class_stands : {A : Type 0} (say : A → BoardLine) (put : List A → PlainBoard) (rank : ℕ)
-    → ((s : SoFar) (x : A) → s.rank ≤ rank → is_out_of_order s (row (kind_of (say x))) ≡ false)
-    → ((s : SoFar) (x : A) → (after s (say x)).rank ≡ rank)
-    → ((place : ℕ) (x : A) → is_passed_limit place (say x) ≡ false)
-    → ((front : List A) (x : A) → added (put front) (say x) ≡ put (front ++ x ∷ []))
-    → 12 ≤ rank → (s : SoFar) (front xs : List A) → s.board ≡ put front → 12 ≤ s.rank → s.rank ≤ rank
-    → Grows (λ done x. Suits (put done) (say x)) front xs → Reaches s (map say xs) (put (front ++ xs)) rank
-class_stands say put rank order same limit one big s front [] e low high h = record { stand = tt; board = e ∙ ap put (sym (append-nil front)); low = low; high = high }
-class_stands say put rank order same limit one big s front (x ∷ xs) e low high h =
-    let t = after s (say x) in
-    let r : t.rank ≡ rank = same s x in
-    let head : (eqb s.rank 0 && not (is_head (say x))) ≡ false = rw (ne_eqb s.rank 0 (λ z. absurd (omega arith))) refl in
-    let others = class_stands say put rank order same limit one big t (front ++ x ∷ []) xs (ap (λ (b : PlainBoard). added b (say x)) e ∙ one front x) (omega arith) (omega arith) h.1 in
-    record {
-      stand = (stand s (say x) (subst (λ b. Suits b (say x)) (sym e) h.0) head (order s x high) (limit s.limited x), others.stand);
-      board = others.board ∙ ap put (append_assoc front (x ∷ []) xs);
-      low = others.low;
-      high = others.high;
-    }
+at_most : {s : SoFar} {b : PlainBoard} {low : ℕ} (high : ℕ) → low ≤ high → At s b low → At s b high
+at_most high le at = record { board = at.board; begun = at.begun; within = omega (arith, at.within); unlimited = at.unlimited }
 
 -- two pieces, one after the other
-both_reach : (s : SoFar) (ls ms : List BoardLine) (a b : PlainBoard) (low high : ℕ) → Reaches s ls a low → low ≤ high → ((t : SoFar) → t.board ≡ a → 12 ≤ t.rank → t.rank ≤ low → Reaches t ms b high) → Reaches s (ls ++ ms) b high
-both_reach s ls ms a b low high h le k =
-    let t = after_all s ls in
-    let others = k t h.board h.low h.high in
-    let same : after_all s (ls ++ ms) ≡ after_all t ms = after-append s ls ms in
-    record {
-      stand = all-append s ls ms h.stand others.stand;
-      board = ap (λ (u : SoFar). u.board) same ∙ others.board;
-      low = subst (λ (u : SoFar). 12 ≤ u.rank) (sym same) others.low;
-      high = subst (λ (u : SoFar). u.rank ≤ high) (sym same) others.high;
-    }
+both_lead : {low mid next high : ℕ} {ls ms : List BoardLine} {a b c : PlainBoard} → Leads low mid ls a b → mid ≤ next → Leads next high ms b c → Leads low high (ls ++ ms) a c
+both_lead {low} {mid} {next} {high} {ls} {ms} {a} {b} {c} h le k = record {
+  stand = λ s at. all-append s ls ms (h.stand s at) (k.stand (after_all s ls) (at_most next le (h.there s at)));
+  there = λ s at. subst (λ (t : SoFar). At t c high) (sym (after-append s ls ms)) (k.there (after_all s ls) (at_most next le (h.there s at)));
+}
 
--- a thread and its script
-script_stands : (b : PlainBoard) (front : List ThreadDef) (t : ThreadDef) (s : SoFar) (done xs : List Stmt) → s.board ≡ record b { threads = front ++ record t { script = done } ∷ [] } → s.rank ≡ 20 → Grows (λ ys x. Suits (record b { threads = front ++ record t { script = ys } ∷ [] }) (BoardLine.Statement x)) done xs → Reaches s (map (λ x. BoardLine.Statement x) xs) (record b { threads = front ++ record t { script = done ++ xs } ∷ [] }) 20
+no_lines : (low high : ℕ) (a b : PlainBoard) → low ≤ high → a ≡ b → Leads low high [] a b
+no_lines low high a b le e = record { stand = λ s at. tt; there = λ s at. record { board = at.board ∙ e; begun = at.begun; within = omega (arith, le, at.within); unlimited = at.unlimited } }
+
+abbrev is_limit : BoardLine → Bool
+is_limit (BoardLine.Limit class n) = true
+is_limit _ = false
+
+no_limit : (place : ℕ) (l : BoardLine) → is_limit l ≡ false → (is_passed_limit place l ≡ false) × (limited_after place l ≡ place)
+no_limit place (BoardLine.Limit class n) e = absurd cc
+no_limit place l e = (refl, refl)
+
+-- the order of a line of a higher rank, or of one that may come again
+later : (k r : ℕ) → r ≤ k → (r < k) ⊎ (last_once < k) → (ltb k r || (leb k last_once && eqb k r)) ≡ false
+later k r le (inl lt) = rw (le-ltb k r le) (and_right (leb k last_once) (eqb k r) (ne_eqb k r (λ e. absurd (omega arith))))
+later k r le (inr big) = rw (le-ltb k r le, lt-leb k last_once big) refl
+
+is_begun : (r : ℕ) (head : Bool) → 1 ≤ r → (eqb r 0 && head) ≡ false
+is_begun r head le = rw (ne_eqb r 0 (λ e. absurd (omega arith))) refl
+
+-- what a line of a kind is, where it is no limit
+abbrev IsOf : LineKind → BoardLine → Type 0
+IsOf k l = (kind_of l ≡ Kind.Line k) × (is_limit l ≡ false)
+
+line_in_order : (s : SoFar) (k : LineKind) → s.rank ≤ rank_of k → (s.rank < rank_of k) ⊎ (last_once < rank_of k) → is_out_of_order s (row (Kind.Line k)) ≡ false
 unfolding row
-script_stands b front t s done [] e r h = record { stand = tt; board = e ∙ ap (λ (ys : List Stmt). record b { threads = front ++ record t { script = ys } ∷ [] }) (sym (append-nil done)); low = omega arith; high = omega arith }
+line_in_order s k le once = later (rank_of k) s.rank le once
+
+line_rank : (s : SoFar) (k : LineKind) (l : BoardLine) → kind_of l ≡ Kind.Line k → (after s l).rank ≡ rank_of k
+unfolding row
+line_rank s k l e = ap (λ (j : Kind). (row j).rank) e
+
+one_line : (low : ℕ) (k : LineKind) (l : BoardLine) (b : PlainBoard) → IsOf k l → low ≤ rank_of k → (low < rank_of k) ⊎ (last_once < rank_of k) → 1 ≤ rank_of k → Suits b l → Leads low (rank_of k) (l ∷ []) b (added b l)
+one_line low k l b is le once some h = record {
+  stand = λ s at. (stand s l (subst (λ c. Suits c l) (sym at.board) h) (is_begun s.rank _ at.begun) (ap (is_out_of_order s) (ap row is.0) ∙ line_in_order s k (omega (arith, at.within)) (below s.rank at.within once)) (no_limit s.limited l is.1).0, tt);
+  there = λ s at. record {
+    board = ap (λ (c : PlainBoard). added c l) at.board;
+    begun = rw (line_rank s k l is.0) some;
+    within = rw (line_rank s k l is.0) (omega arith);
+    unlimited = λ lt. (no_limit s.limited l is.1).1 ∙ at.unlimited (let e = line_rank s k l is.0 in omega (arith, at.within));
+  };
+} where
+  below : (r : ℕ) → r ≤ low → (low < rank_of k) ⊎ (last_once < rank_of k) → (r < rank_of k) ⊎ (last_once < rank_of k)
+  below r within (inl lt) = inl (omega arith)
+  below r within (inr big) = inr big
+
+-- ---- the lines of classes, threads and settings that may be missing
+
+-- the lines of one class
+class_leads : {A : Type 0} (k : LineKind) (say : A → BoardLine) (put : List A → PlainBoard) → last_once < rank_of k → ((x : A) → IsOf k (say x)) → ((front : List A) (x : A) → added (put front) (say x) ≡ put (front ++ x ∷ [])) → (front xs : List A) → Grows (λ done x. Suits (put done) (say x)) front xs → Leads (rank_of k) (rank_of k) (map say xs) (put front) (put (front ++ xs))
+class_leads {A} k say put big is one front [] h = no_lines (rank_of k) (rank_of k) (put front) _ (omega arith) (ap put (sym (append-nil front)))
+class_leads {A} k say put big is one front (x ∷ xs) h =
+    let r = rank_of k in
+    let first = one_line r k (say x) (put front) (is x) (omega arith) (inr big) (omega arith) h.0 in
+    let others = class_leads k say put big is one (front ++ x ∷ []) xs h.1 in
+    subst (λ (zs : List A). Leads r r (map say (x ∷ xs)) (put front) (put zs)) (append_assoc front (x ∷ []) xs)
+    (both_lead (subst (Leads r r (say x ∷ []) (put front)) (one front x) first) (omega arith) others)
+
+abbrev ScriptSuits : PlainBoard → List ThreadDef → ThreadDef → List Stmt → Stmt → Type 0
+ScriptSuits b front t done x = Suits (record b { threads = front ++ record t { script = done } ∷ [] }) (BoardLine.Statement x)
+
+-- behind a thread or a statement of it
+script_stands : (b : PlainBoard) (front : List ThreadDef) (t : ThreadDef) (s : SoFar) (done xs : List Stmt) → s.board ≡ record b { threads = front ++ record t { script = done } ∷ [] } → s.rank ≡ rank_of LineKind.Thread → Grows (ScriptSuits b front t) done xs → AllStand s (map (λ x. BoardLine.Statement x) xs) × At (after_all s (map (λ x. BoardLine.Statement x) xs)) (record b { threads = front ++ record t { script = done ++ xs } ∷ [] }) (rank_of LineKind.Thread)
+unfolding row
+script_stands b front t s done [] e r h = (tt, record { board = e ∙ ap (λ (ys : List Stmt). record b { threads = front ++ record t { script = ys } ∷ [] }) (sym (append-nil done)); begun = omega arith; within = omega arith; unlimited = λ lt. absurd (omega arith) })
 script_stands b front t s done (x ∷ xs) e r h =
     let u = after s (BoardLine.Statement x) in
-    let head : (eqb s.rank 0 && true) ≡ false = ap (λ (k : ℕ). eqb k 0 && true) r in
-    let order : is_out_of_order s (row (kind_of (BoardLine.Statement x))) ≡ false = ap (λ (k : ℕ). not (eqb k 20)) r in
+    let order : is_out_of_order s (row (kind_of (BoardLine.Statement x))) ≡ false = ap (λ (k : ℕ). not (eqb k (rank_of LineKind.Thread))) r in
     let board : u.board ≡ record b { threads = front ++ record t { script = done ++ x ∷ [] } ∷ [] } = ap (λ (c : PlainBoard). added c (BoardLine.Statement x)) e ∙ ap (λ (ts : List ThreadDef). record b { threads = ts }) (scripted_last front (record t { script = done }) x) in
-    let others = script_stands b front t u (done ++ x ∷ []) xs board refl h.1 in
-    record {
-      stand = (stand s (BoardLine.Statement x) (subst (λ c. Suits c (BoardLine.Statement x)) (sym e) h.0) head order refl, others.stand);
-      board = others.board ∙ ap (λ (ys : List Stmt). record b { threads = front ++ record t { script = ys } ∷ [] }) (append_assoc done (x ∷ []) xs);
-      low = others.low;
-      high = others.high;
-    }
+    let others = script_stands b front t u (done ++ x ∷ []) xs board refl h.1 in (
+      (stand s (BoardLine.Statement x) (subst (λ c. Suits c (BoardLine.Statement x)) (sym e) h.0) (ap (λ (k : ℕ). eqb k 0 && true) r) order refl, others.0),
+      subst (λ (ys : List Stmt). At (after_all u (map (λ x. BoardLine.Statement x) xs)) (record b { threads = front ++ record t { script = ys } ∷ [] }) (rank_of LineKind.Thread)) (append_assoc done (x ∷ []) xs) others.1,
+    )
 
-thread_stands : (b : PlainBoard) (front : List ThreadDef) (t : ThreadDef) (s : SoFar) → s.board ≡ record b { threads = front } → 12 ≤ s.rank → s.rank ≤ 20 → ThreadGrows b front t → Reaches s (thread_lines t) (record b { threads = front ++ t ∷ [] }) 20
+thread_leads : (b : PlainBoard) (front : List ThreadDef) (t : ThreadDef) → ThreadGrows b front t → Leads (rank_of LineKind.Thread) (rank_of LineKind.Thread) (thread_lines t) (record b { threads = front }) (record b { threads = front ++ t ∷ [] })
 unfolding row
-thread_stands b front t s e low high h =
-    let l = BoardLine.Thread (line_of_thread t) in
-    let head : (eqb s.rank 0 && true) ≡ false = rw (ne_eqb s.rank 0 (λ z. absurd (omega arith))) refl in
-    let others = script_stands b front t (after s l) [] t.script (ap (λ (c : PlainBoard). added c l) e) refl h.1 in
-    record {
-      stand = (stand s l (subst (λ c. Suits c l) (sym e) h.0) head (later 20 s.rank high (omega arith)) refl, others.stand);
-      board = others.board;
-      low = others.low;
-      high = others.high;
-    }
+thread_leads b front t h = record { stand = λ s at. ((first.stand s at).0, (script s at).0); there = λ s at. (script s at).1 } where
+  line : BoardLine
+  line = BoardLine.Thread (line_of_thread t)
 
-threads_stand : (b : PlainBoard) (front ts : List ThreadDef) (s : SoFar) → s.board ≡ record b { threads = front } → 12 ≤ s.rank → s.rank ≤ 20 → Grows (ThreadGrows b) front ts → Reaches s (flat_map thread_lines ts) (record b { threads = front ++ ts }) 20
-threads_stand b front [] s e low high h = record { stand = tt; board = e ∙ ap (λ (ts : List ThreadDef). record b { threads = ts }) (sym (append-nil front)); low = low; high = high }
-threads_stand b front (t ∷ ts) s e low high h =
-    subst (λ (ls : List BoardLine). Reaches s ls (record b { threads = front ++ t ∷ ts }) 20) (sym (flat_map-cons thread_lines t ts))
-    (both_reach s (thread_lines t) (flat_map thread_lines ts) (record b { threads = front ++ t ∷ [] }) (record b { threads = front ++ t ∷ ts }) 20 20 (thread_stands b front t s e low high h.0) (omega arith)
-    (λ u f l k. subst (λ (zs : List ThreadDef). Reaches u (flat_map thread_lines ts) (record b { threads = zs }) 20) (append_assoc front (t ∷ []) ts) (threads_stand b (front ++ t ∷ []) ts u f l k h.1)))
+  first : Leads (rank_of LineKind.Thread) (rank_of LineKind.Thread) (line ∷ []) (record b { threads = front }) (record b { threads = front ++ record t { script = [] } ∷ [] })
+  first = one_line (rank_of LineKind.Thread) LineKind.Thread line (record b { threads = front }) (refl, refl) (omega arith) (inr (omega arith)) (omega arith) h.0
 
-sems_stand : (b : PlainBoard) (xs : List SemDef) (s : SoFar) → s.board ≡ record b { sems = [] } → 12 ≤ s.rank → s.rank ≤ 13 → Grows (λ done x. Suits (record b { sems = done }) (BoardLine.Sem x)) [] xs → Reaches s (map (λ (x : SemDef). BoardLine.Sem x) xs) (record b { sems = xs }) 13
+  script : (s : SoFar) → At s (record b { threads = front }) (rank_of LineKind.Thread) → AllStand (after s line) (map (λ x. BoardLine.Statement x) t.script) × At (after_all s (thread_lines t)) (record b { threads = front ++ t ∷ [] }) (rank_of LineKind.Thread)
+  script s at = script_stands b front t (after s line) [] t.script (first.there s at).board refl h.1
+
+threads_lead : (b : PlainBoard) (front ts : List ThreadDef) → Grows (ThreadGrows b) front ts → Leads (rank_of LineKind.Thread) (rank_of LineKind.Thread) (flat_map thread_lines ts) (record b { threads = front }) (record b { threads = front ++ ts })
+threads_lead b front [] h = no_lines (rank_of LineKind.Thread) (rank_of LineKind.Thread) (record b { threads = front }) _ (omega arith) (ap (λ (ts : List ThreadDef). record b { threads = ts }) (sym (append-nil front)))
+threads_lead b front (t ∷ ts) h =
+    let both = both_lead (thread_leads b front t h.0) (omega arith) (threads_lead b (front ++ t ∷ []) ts h.1) in
+    subst (λ (ls : List BoardLine). Leads (rank_of LineKind.Thread) (rank_of LineKind.Thread) ls (record b { threads = front }) (record b { threads = front ++ t ∷ ts })) (sym (flat_map-cons thread_lines t ts))
+    (subst (λ (zs : List ThreadDef). Leads (rank_of LineKind.Thread) (rank_of LineKind.Thread) (thread_lines t ++ flat_map thread_lines ts) (record b { threads = front }) (record b { threads = zs })) (append_assoc front (t ∷ []) ts) both)
+
+shell_leads : (b : PlainBoard) (p : Option ℕ) → b.shell ≡ None → OwnFits b.levels p → Leads (rank_of LineKind.Schedule) (rank_of LineKind.Shell) (shell_lines p) b (record b { shell = p })
+shell_leads b None e h = no_lines (rank_of LineKind.Schedule) (rank_of LineKind.Shell) b _ (omega arith) (ap (λ (q : Option ℕ). record b { shell = q }) e)
+shell_leads b (Some p) e h = one_line (rank_of LineKind.Schedule) LineKind.Shell (BoardLine.Shell p) b (refl, refl) (omega arith) (inl (omega arith)) (omega arith) (h, refl, refl, refl)
+
+soft_leads : (b : PlainBoard) (p : Option ℕ) → b.soft ≡ None → OwnFits b.levels p → Leads (rank_of LineKind.Shell) (rank_of LineKind.Soft) (soft_lines p) b (record b { soft = p })
+soft_leads b None e h = no_lines (rank_of LineKind.Shell) (rank_of LineKind.Soft) b _ (omega arith) (ap (λ (q : Option ℕ). record b { soft = q }) e)
+soft_leads b (Some p) e h = one_line (rank_of LineKind.Shell) LineKind.Soft (BoardLine.Soft p) b (refl, refl) (omega arith) (inl (omega arith)) (omega arith) (h, refl, refl, refl)
+
+limits_lead : (b c : PlainBoard) → SettingFits b LineKind.Limit → Leads (rank_of LineKind.Soft) (rank_of LineKind.Limit) (limit_lines b) c (record c { limits = b.limits })
 unfolding row
-sems_stand b xs s e low high h = class_stands (λ (x : SemDef). BoardLine.Sem x) (λ (ys : List SemDef). record b { sems = ys }) 13 (λ t x le. later 13 t.rank le (omega arith)) (λ t x. refl) (λ p x. refl) (λ front x. refl) (omega arith) s [] xs e low high h
+limits_lead b c h = record {
+  stand = λ s at.
+      let first = BoardLine.Limit LimitClass.Sem b.limits.sem in
+      let second = BoardLine.Limit LimitClass.Event b.limits.event in
+      let unlimited : s.limited ≡ 0 = at.unlimited (omega (arith, at.within)) in (
+        stand s first (h.0, refl, refl, refl) (is_begun s.rank true at.begun) (line_in_order s LineKind.Limit (omega (arith, at.within)) (inr (omega arith))) (ap (λ (k : ℕ). leb 1 k) unlimited),
+        (stand (after s first) second (h.1, refl, refl, refl) refl refl refl, (stand (after (after s first) second) (BoardLine.Limit LimitClass.Mutex b.limits.mutex) (h.2, refl, refl, refl) refl refl refl, tt)),
+      );
+  there = λ s at. record { board = ap (λ (d : PlainBoard). record d { limits = b.limits }) at.board; begun = omega arith; within = omega arith; unlimited = λ lt. absurd (omega arith) };
+}
 
-events_stand : (b : PlainBoard) (xs : List EventDef) (s : SoFar) → s.board ≡ record b { events = [] } → 12 ≤ s.rank → s.rank ≤ 14 → Grows (λ done x. Suits (record b { events = done }) (BoardLine.Event x)) [] xs → Reaches s (map (λ (x : EventDef). BoardLine.Event x) xs) (record b { events = xs }) 14
-unfolding row
-events_stand b xs s e low high h = class_stands (λ (x : EventDef). BoardLine.Event x) (λ (ys : List EventDef). record b { events = ys }) 14 (λ t x le. later 14 t.rank le (omega arith)) (λ t x. refl) (λ p x. refl) (λ front x. refl) (omega arith) s [] xs e low high h
-
-mutexes_stand : (b : PlainBoard) (xs : List MutexDef) (s : SoFar) → s.board ≡ record b { mutexes = [] } → 12 ≤ s.rank → s.rank ≤ 15 → Grows (λ done x. Suits (record b { mutexes = done }) (BoardLine.Mutex x)) [] xs → Reaches s (map (λ (x : MutexDef). BoardLine.Mutex x) xs) (record b { mutexes = xs }) 15
-unfolding row
-mutexes_stand b xs s e low high h = class_stands (λ (x : MutexDef). BoardLine.Mutex x) (λ (ys : List MutexDef). record b { mutexes = ys }) 15 (λ t x le. later 15 t.rank le (omega arith)) (λ t x. refl) (λ p x. refl) (λ front x. refl) (omega arith) s [] xs e low high h
-
-mailboxes_stand : (b : PlainBoard) (xs : List MailboxDef) (s : SoFar) → s.board ≡ record b { mailboxes = [] } → 12 ≤ s.rank → s.rank ≤ 16 → Grows (λ done x. Suits (record b { mailboxes = done }) (BoardLine.Mailbox x)) [] xs → Reaches s (map (λ (x : MailboxDef). BoardLine.Mailbox x) xs) (record b { mailboxes = xs }) 16
-unfolding row
-mailboxes_stand b xs s e low high h = class_stands (λ (x : MailboxDef). BoardLine.Mailbox x) (λ (ys : List MailboxDef). record b { mailboxes = ys }) 16 (λ t x le. later 16 t.rank le (omega arith)) (λ t x. refl) (λ p x. refl) (λ front x. refl) (omega arith) s [] xs e low high h
-
-queues_stand : (b : PlainBoard) (xs : List QueueDef) (s : SoFar) → s.board ≡ record b { queues = [] } → 12 ≤ s.rank → s.rank ≤ 17 → Grows (λ done x. Suits (record b { queues = done }) (BoardLine.Queue x)) [] xs → Reaches s (map (λ (x : QueueDef). BoardLine.Queue x) xs) (record b { queues = xs }) 17
-unfolding row
-queues_stand b xs s e low high h = class_stands (λ (x : QueueDef). BoardLine.Queue x) (λ (ys : List QueueDef). record b { queues = ys }) 17 (λ t x le. later 17 t.rank le (omega arith)) (λ t x. refl) (λ p x. refl) (λ front x. refl) (omega arith) s [] xs e low high h
-
-devices_stand : (b : PlainBoard) (xs : List DeviceDef) (s : SoFar) → s.board ≡ record b { devices = [] } → 12 ≤ s.rank → s.rank ≤ 18 → Grows (λ done x. Suits (record b { devices = done }) (BoardLine.Device x)) [] xs → Reaches s (map (λ (x : DeviceDef). BoardLine.Device x) xs) (record b { devices = xs }) 18
-unfolding row
-devices_stand b xs s e low high h = class_stands (λ (x : DeviceDef). BoardLine.Device x) (λ (ys : List DeviceDef). record b { devices = ys }) 18 (λ t x le. later 18 t.rank le (omega arith)) (λ t x. refl) (λ p x. refl) (λ front x. refl) (omega arith) s [] xs e low high h
-
-timers_stand : (b : PlainBoard) (xs : List TimerDef) (s : SoFar) → s.board ≡ record b { timers = [] } → 12 ≤ s.rank → s.rank ≤ 19 → Grows (λ done x. Suits (record b { timers = done }) (BoardLine.Timer x)) [] xs → Reaches s (map (λ (x : TimerDef). BoardLine.Timer x) xs) (record b { timers = xs }) 19
-unfolding row
-timers_stand b xs s e low high h = class_stands (λ (x : TimerDef). BoardLine.Timer x) (λ (ys : List TimerDef). record b { timers = ys }) 19 (λ t x le. later 19 t.rank le (omega arith)) (λ t x. refl) (λ p x. refl) (λ front x. refl) (omega arith) s [] xs e low high h
-
-arrivals_stand : (b : PlainBoard) (xs : List Arrival) (s : SoFar) → s.board ≡ record b { arrivals = [] } → 12 ≤ s.rank → s.rank ≤ 21 → Grows (λ done x. Suits (record b { arrivals = done }) (BoardLine.Arrive x)) [] xs → Reaches s (map (λ (x : Arrival). BoardLine.Arrive x) xs) (record b { arrivals = xs }) 21
-unfolding row
-arrivals_stand b xs s e low high h = class_stands (λ (x : Arrival). BoardLine.Arrive x) (λ (ys : List Arrival). record b { arrivals = ys }) 21 (λ t x le. later 21 t.rank le (omega arith)) (λ t x. refl) (λ p x. refl) (λ front x. refl) (omega arith) s [] xs e low high h
-
-objects_stand : (b : PlainBoard) (s : SoFar) → s.board ≡ record b { sems = []; events = []; mutexes = []; mailboxes = []; queues = []; devices = []; timers = []; threads = []; arrivals = [] } → 12 ≤ s.rank → s.rank ≤ 13 → ObjectsGrow b → Reaches s (object_lines b) b 21
-objects_stand b s0 e0 low0 high0 h =
-    let b0 = record b { sems = []; events = []; mutexes = []; mailboxes = []; queues = []; devices = []; timers = []; threads = []; arrivals = [] } in
-    let b1 = record b { events = []; mutexes = []; mailboxes = []; queues = []; devices = []; timers = []; threads = []; arrivals = [] } in
-    let b2 = record b { mutexes = []; mailboxes = []; queues = []; devices = []; timers = []; threads = []; arrivals = [] } in
-    let b3 = record b { mailboxes = []; queues = []; devices = []; timers = []; threads = []; arrivals = [] } in
-    let b4 = record b { queues = []; devices = []; timers = []; threads = []; arrivals = [] } in
-    let b5 = record b { devices = []; timers = []; threads = []; arrivals = [] } in
-    let b6 = record b { timers = []; threads = []; arrivals = [] } in
-    let b7 = record b { threads = []; arrivals = [] } in
+objects_lead : (b : PlainBoard) → ObjectsGrow b → Leads (rank_of LineKind.Sem) (rank_of LineKind.Arrive) (object_lines b) (settings_of b) b
+objects_lead b h =
     let b8 = record b { arrivals = [] } in
-    let last = λ (t : SoFar) (e : t.board ≡ b8) (low : 12 ≤ t.rank) (high : t.rank ≤ 20). arrivals_stand b b.arrivals t e low (omega arith) h.8 in
-    both_reach s0 (map (λ d. BoardLine.Sem d) b.sems) (map (λ d. BoardLine.Event d) b.events ++ (map (λ d. BoardLine.Mutex d) b.mutexes ++ (map (λ d. BoardLine.Mailbox d) b.mailboxes ++ (map (λ d. BoardLine.Queue d) b.queues ++ (map (λ d. BoardLine.Device d) b.devices ++ (map (λ d. BoardLine.Timer d) b.timers ++ (flat_map thread_lines b.threads ++ (map (λ d. BoardLine.Arrive d) b.arrivals)))))))) b1 b 13 21 (sems_stand b0 b.sems s0 e0 low0 (omega (arith, high0)) h.0) (omega arith) (λ s1 e1 low1 high1.
-    both_reach s1 (map (λ d. BoardLine.Event d) b.events) (map (λ d. BoardLine.Mutex d) b.mutexes ++ (map (λ d. BoardLine.Mailbox d) b.mailboxes ++ (map (λ d. BoardLine.Queue d) b.queues ++ (map (λ d. BoardLine.Device d) b.devices ++ (map (λ d. BoardLine.Timer d) b.timers ++ (flat_map thread_lines b.threads ++ (map (λ d. BoardLine.Arrive d) b.arrivals))))))) b2 b 14 21 (events_stand b1 b.events s1 e1 low1 (omega (arith, high1)) h.1) (omega arith) (λ s2 e2 low2 high2.
-    both_reach s2 (map (λ d. BoardLine.Mutex d) b.mutexes) (map (λ d. BoardLine.Mailbox d) b.mailboxes ++ (map (λ d. BoardLine.Queue d) b.queues ++ (map (λ d. BoardLine.Device d) b.devices ++ (map (λ d. BoardLine.Timer d) b.timers ++ (flat_map thread_lines b.threads ++ (map (λ d. BoardLine.Arrive d) b.arrivals)))))) b3 b 15 21 (mutexes_stand b2 b.mutexes s2 e2 low2 (omega (arith, high2)) h.2) (omega arith) (λ s3 e3 low3 high3.
-    both_reach s3 (map (λ d. BoardLine.Mailbox d) b.mailboxes) (map (λ d. BoardLine.Queue d) b.queues ++ (map (λ d. BoardLine.Device d) b.devices ++ (map (λ d. BoardLine.Timer d) b.timers ++ (flat_map thread_lines b.threads ++ (map (λ d. BoardLine.Arrive d) b.arrivals))))) b4 b 16 21 (mailboxes_stand b3 b.mailboxes s3 e3 low3 (omega (arith, high3)) h.3) (omega arith) (λ s4 e4 low4 high4.
-    both_reach s4 (map (λ d. BoardLine.Queue d) b.queues) (map (λ d. BoardLine.Device d) b.devices ++ (map (λ d. BoardLine.Timer d) b.timers ++ (flat_map thread_lines b.threads ++ (map (λ d. BoardLine.Arrive d) b.arrivals)))) b5 b 17 21 (queues_stand b4 b.queues s4 e4 low4 (omega (arith, high4)) h.4) (omega arith) (λ s5 e5 low5 high5.
-    both_reach s5 (map (λ d. BoardLine.Device d) b.devices) (map (λ d. BoardLine.Timer d) b.timers ++ (flat_map thread_lines b.threads ++ (map (λ d. BoardLine.Arrive d) b.arrivals))) b6 b 18 21 (devices_stand b5 b.devices s5 e5 low5 (omega (arith, high5)) h.5) (omega arith) (λ s6 e6 low6 high6.
-    both_reach s6 (map (λ d. BoardLine.Timer d) b.timers) (flat_map thread_lines b.threads ++ (map (λ d. BoardLine.Arrive d) b.arrivals)) b7 b 19 21 (timers_stand b6 b.timers s6 e6 low6 (omega (arith, high6)) h.6) (omega arith) (λ s7 e7 low7 high7.
-    both_reach s7 (flat_map thread_lines b.threads) (map (λ d. BoardLine.Arrive d) b.arrivals) b8 b 20 21 (threads_stand b7 [] b.threads s7 e7 low7 (omega (arith, high7)) h.7) (omega arith) last)))))))
+    let b7 = record b8 { threads = [] } in
+    let b6 = record b7 { timers = [] } in
+    let b5 = record b6 { devices = [] } in
+    let b4 = record b5 { pools = [] } in
+    let b3 = record b4 { queues = [] } in
+    let b2 = record b3 { mailboxes = [] } in
+    let b1 = record b2 { mutexes = [] } in
+    let b0 = record b1 { events = [] } in
+    both_lead (class_leads LineKind.Sem (λ x. BoardLine.Sem x) (λ xs. record b0 { sems = xs }) (omega arith) (λ x. (refl, refl)) (λ front x. refl) [] b.sems (h LineKind.Sem)) (omega arith)
+    (both_lead (class_leads LineKind.Event (λ x. BoardLine.Event x) (λ xs. record b1 { events = xs }) (omega arith) (λ x. (refl, refl)) (λ front x. refl) [] b.events (h LineKind.Event)) (omega arith)
+    (both_lead (class_leads LineKind.Mutex (λ x. BoardLine.Mutex x) (λ xs. record b2 { mutexes = xs }) (omega arith) (λ x. (refl, refl)) (λ front x. refl) [] b.mutexes (h LineKind.Mutex)) (omega arith)
+    (both_lead (class_leads LineKind.Mailbox (λ x. BoardLine.Mailbox x) (λ xs. record b3 { mailboxes = xs }) (omega arith) (λ x. (refl, refl)) (λ front x. refl) [] b.mailboxes (h LineKind.Mailbox)) (omega arith)
+    (both_lead (class_leads LineKind.Queue (λ x. BoardLine.Queue x) (λ xs. record b4 { queues = xs }) (omega arith) (λ x. (refl, refl)) (λ front x. refl) [] b.queues (h LineKind.Queue)) (omega arith)
+    (both_lead (class_leads LineKind.Pool (λ x. BoardLine.Pool x) (λ xs. record b5 { pools = xs }) (omega arith) (λ x. (refl, refl)) (λ front x. refl) [] b.pools (h LineKind.Pool)) (omega arith)
+    (both_lead (class_leads LineKind.Device (λ x. BoardLine.Device x) (λ xs. record b6 { devices = xs }) (omega arith) (λ x. (refl, refl)) (λ front x. refl) [] b.devices (h LineKind.Device)) (omega arith)
+    (both_lead (class_leads LineKind.Timer (λ x. BoardLine.Timer x) (λ xs. record b7 { timers = xs }) (omega arith) (λ x. (refl, refl)) (λ front x. refl) [] b.timers (h LineKind.Timer)) (omega arith)
+    (both_lead (threads_lead b8 [] b.threads (h LineKind.Thread)) (omega arith)
+    (class_leads LineKind.Arrive (λ x. BoardLine.Arrive x) (λ xs. record b { arrivals = xs }) (omega arith) (λ x. (refl, refl)) (λ front x. refl) [] b.arrivals (h LineKind.Arrive))))))))))
 
 all_stand : (b : PlainBoard) → SettingsFit b → ObjectsGrow b → AllStand start (board_lines b)
 unfolding row
 all_stand b h k =
-    let s0 = after_all start (setting_lines b) in
-    let shell = shell_stands b.levels s0 b.shell refl refl refl h.8 in
-    let s1 = after_all s0 (shell_lines b.shell) in
-    let s2 = after_all s1 (limit_lines b) in
-    let none : s1.limited ≡ 0 = shell.4 in
-    let board : s2.board ≡ record b { sems = []; events = []; mutexes = []; mailboxes = []; queues = []; devices = []; timers = []; threads = []; arrivals = [] } = ap (λ (c : PlainBoard). record c { limits = b.limits }) shell.1 in
-    all-append start (setting_lines b) (shell_lines b.shell ++ (limit_lines b ++ object_lines b)) (settings_stand b h)
-    (all-append s0 (shell_lines b.shell) (limit_lines b ++ object_lines b) shell.0
-    (all-append s1 (limit_lines b) (object_lines b) (limits_stand b s1 none shell.2 shell.3 h.9 h.10 h.11)
-    (objects_stand b s2 board (omega arith) (omega arith) k).stand))
+    let s = after_all start (setting_lines b) in
+    let others =
+    both_lead (shell_leads s.board b.shell refl (h LineKind.Shell)) (omega arith)
+    (both_lead (soft_leads (record s.board { shell = b.shell }) b.soft refl (h LineKind.Soft)) (omega arith)
+    (both_lead (limits_lead b (record s.board { shell = b.shell; soft = b.soft }) (h LineKind.Limit)) (omega arith) (objects_lead b k))) in
+    all-append start (setting_lines b) (other_lines b) (settings_stand b h) (others.stand s (record { board = refl; begun = omega arith; within = omega arith; unlimited = λ lt. refl }))
 
 -- the board that a text is, is valid
 pub read_is_valid : (bytes : List ℕ) (b : PlainBoard) → IsBoard bytes b → IsValid b
