@@ -1,20 +1,20 @@
 -- The state in which a board opens holds what each event keeps.
-use Rattle.std.proofs.Common.{◌≡◌, ◌≢◌, ◌⊎◌, inl, inr, ◌+◌, ◌≤◌, ◌<◌, ◌∷◌, [], ℕ, zero, suc, List, Option, Some, None, Bool, true, false, not, IsTrue, is_some, cond, length, eqb, refl, sym, ap, subst, arith, eq-eqb, eqb-true, ne_eqb, codes, slice_index_or, filter, map, reverse, replicate, if◌then◌else◌, length-append, AllPairs, ◌++◌, bytes_eq, ◌||◌, ◌∙◌}
+use Rattle.std.proofs.Common.{◌≡◌, ◌≢◌, ◌⊎◌, inl, inr, ◌+◌, ◌≤◌, ◌<◌, ◌∷◌, [], ℕ, zero, suc, List, Option, Some, None, Bool, true, false, not, IsTrue, is_some, cond, length, eqb, refl, sym, ap, subst, arith, eq-eqb, eqb-true, ne_eqb, codes, slice_index_or, filter, map, reverse, replicate, if◌then◌else◌, length-append, AllPairs, ◌++◌, bytes_eq, ◌||◌, ◌∙◌, Contains}
 use Rattle.std.specs.List.{AllByRecursion, range_with_len, fold, list_any}
 use Rattle.std.proofs.lemmas.Bool.{eqb-false}
 use Rattle.std.proofs.lemmas.List.{length-map, length-replicate}
-use Rattle.std.proofs.lemmas.List.Elements.{recursion_from_All}
+use Rattle.std.proofs.lemmas.List.Elements.{recursion_from_All, All-contains_itself}
 use Rattle.std.proofs.lemmas.Grind.{reverse_onto}
 use Rattle.rt_plain.specs.declared.board.TimerDef.{TimerDef}
 use Rattle.rt_plain.specs.declared.board.ThreadDef.{ThreadDef}
 use Rattle.rt_plain.specs.PlainBoard.{PlainBoard}
 use Rattle.rt_plain.specs.State.{State, Thread, Alarm, OfTimer, ArmedRow, no_thread, thread_at, thread_numbers, is_number, is_initial, Timer}
 use Rattle.rt_plain.specs.Effects.{with_alarm, is_alarm}
-use Rattle.rt_plain.specs.Opening.{new_timer, new_thread, new_script_thread, shell_threads, new_threads, unstarted_state, with_auto_timer, open_state}
+use Rattle.rt_plain.specs.Opening.{new_timer, new_thread, new_script_thread, own_threads, new_threads, unstarted_state, with_auto_timer, open_state}
 use Rattle.rt_plain.specs.Runs.{thread_count}
 use Rattle.rt_plain.specs.Sound.{is_active, is_timed_action, IsProper}
 use Rattle.rt_plain.proofs.TallyLemmas.{one_if, tally, le_or_lt, all-append, all-weaker, past-end, tally-last, all-both}
-use Rattle.rt_plain.proofs.Invariant.{Kept, stage_at, places, IsWaited, IsFineThread, IsFineTimer, IsRowKept, is_owned, IsOwned, alone-more}
+use Rattle.rt_plain.proofs.Invariant.{Kept, stage_at, places, standings, IsWaited, IsFineThread, IsFineTimer, IsRowKept, IsRowBounded, is_owned, IsOwned, alone-more, bounded-more}
 use Rattle.rt_plain.proofs.TickLemmas.{still}
 use Rattle.std.proofs.lemmas.Slice.Eq.{bytes_eq-Decides}
 use Rattle.std.proofs.lemmas.List.Folds.{list_any-append}
@@ -38,13 +38,14 @@ abbrev IsFresh : List (ArmedRow Alarm) → List TimerDef → Type 0
 IsFresh armed defs = AllByRecursion (λ (def : TimerDef). tally (λ (r : ArmedRow Alarm). is_alarm (OfTimer def.name) r.alarm) armed ≡ 0) defs
 
 abbrev IsSingle : List (ArmedRow Alarm) → Type 0
-IsSingle armed = (alarm : Alarm) → tally (λ (r : ArmedRow Alarm). is_alarm alarm r.alarm) armed ≤ 1
+IsSingle armed = (alarm : Alarm) → standings alarm [] armed ≤ 1
 
 record IsArmedFrom (timers : List Timer) (s new : State) : Type 0 where
   armed : List (ArmedRow Alarm)
   numbers : ℕ
   state : new ≡ record s { armed = armed; numbers = numbers }
   rows : AllByRecursion (IsTimerRow timers) armed
+  bounded : AllByRecursion (IsRowBounded 0 numbers) armed
   single : IsSingle armed
 
 fresh-more : (armed : List (ArmedRow Alarm)) (row : ArmedRow Alarm) (def : TimerDef) (defs : List TimerDef) → row.alarm ≡ OfTimer def.name → AllByRecursion (λ (other : TimerDef). def.name ≢ other.name) defs → IsFresh armed defs → IsFresh (armed ++ row ∷ []) defs
@@ -57,17 +58,27 @@ fresh-more armed row def (other ∷ others) is apart fresh = (omega (arith, fres
   off : one_if (is_alarm (OfTimer other.name) row.alarm) ≡ 0
   off = ap (λ (a : Alarm). one_if (is_alarm (OfTimer other.name) a)) is ∙ by_test (bytes_eq other.name def.name) refl
 
-auto-armed : (timers : List Timer) (s : State) (defs : List TimerDef) → AllByRecursion (λ (def : TimerDef). (1 ≤ def.time) × (is_owned timers (OfTimer def.name) ≡ true)) defs → NamesApart defs → IsFresh s.armed defs → IsSingle s.armed → AllByRecursion (IsTimerRow timers) s.armed → IsArmedFrom timers s (fold with_auto_timer s defs)
-auto-armed timers s [] timed apart fresh single rows = record { armed = s.armed; numbers = s.numbers; state = refl; rows = rows; single = single }
-auto-armed timers s (def ∷ defs) timed apart fresh single rows = by_start def.started (λ u free one all. auto-armed timers u defs timed.1 apart.1 free one all) where
+-- what an automatic start needs of a timer of the board
+abbrev IsStartable : List Timer → TimerDef → Type 0
+IsStartable timers def = (1 ≤ def.time) × (def.time ≤ 2147483647) × (is_owned timers (OfTimer def.name) ≡ true)
+
+auto-armed : (timers : List Timer) (s : State) (defs : List TimerDef) → AllByRecursion (IsStartable timers) defs → NamesApart defs → IsFresh s.armed defs → IsSingle s.armed → AllByRecursion (IsTimerRow timers) s.armed → AllByRecursion (IsRowBounded 0 s.numbers) s.armed → IsArmedFrom timers s (fold with_auto_timer s defs)
+auto-armed timers s [] timed apart fresh single rows bounded = record { armed = s.armed; numbers = s.numbers; state = refl; rows = rows; bounded = bounded; single = single }
+auto-armed timers s (def ∷ defs) timed apart fresh single rows bounded = by_start def.started (λ u free one all numbered. auto-armed timers u defs timed.1 apart.1 free one all numbered) where
   row : ArmedRow Alarm
   row = record { due = def.time; number = s.numbers; alarm = OfTimer def.name }
 
-  by_start : (started : Bool) → ((u : State) → IsFresh u.armed defs → IsSingle u.armed → AllByRecursion (IsTimerRow timers) u.armed → IsArmedFrom timers u (fold with_auto_timer u defs)) → IsArmedFrom timers s (fold with_auto_timer (if started then with_alarm s (OfTimer def.name) (Some def.time) else s) defs)
-  by_start false more = more s fresh.1 single rows
+  new : State
+  new = with_alarm s (OfTimer def.name) (Some def.time)
+
+  numbered : AllByRecursion (IsRowBounded 0 (s.numbers + 1)) (s.armed ++ row ∷ [])
+  numbered = all-append (IsRowBounded 0 (s.numbers + 1)) s.armed (row ∷ []) (bounded-more 0 s.numbers s.armed bounded) ((omega (arith, timed.0.1), omega arith), tt)
+
+  by_start : (started : Bool) → ((u : State) → IsFresh u.armed defs → IsSingle u.armed → AllByRecursion (IsTimerRow timers) u.armed → AllByRecursion (IsRowBounded 0 u.numbers) u.armed → IsArmedFrom timers u (fold with_auto_timer u defs)) → IsArmedFrom timers s (fold with_auto_timer (if started then new else s) defs)
+  by_start false more = more s fresh.1 single rows bounded
   by_start true more =
-      let from : IsArmedFrom timers (with_alarm s (OfTimer def.name) (Some def.time)) (fold with_auto_timer (with_alarm s (OfTimer def.name) (Some def.time)) defs) = more (with_alarm s (OfTimer def.name) (Some def.time)) (fresh-more s.armed row def defs refl apart.0 fresh.1) (alone-more s.armed row fresh.0 single) (all-append (IsTimerRow timers) s.armed (row ∷ []) rows ((timed.0.0, λ threads. tt, timed.0.1), tt)) in
-      record { armed = from.armed; numbers = from.numbers; state = from.state; rows = from.rows; single = from.single }
+      let from : IsArmedFrom timers new (fold with_auto_timer new defs) = more new (fresh-more s.armed row def defs refl apart.0 fresh.1) (alone-more [] s.armed row (omega (arith, fresh.0)) single) (all-append (IsTimerRow timers) s.armed (row ∷ []) rows ((timed.0.0, λ threads. tt, timed.0.2), tt)) numbered in
+      record { armed = from.armed; numbers = from.numbers; state = from.state; rows = from.rows; bounded = from.bounded; single = from.single }
 
 -- a number counts once in a range, where it passes
 range-below : (p : ℕ → Bool) (a n t : ℕ) → t < a → tally (λ u. eqb u t) (filter p (range_with_len a n)) ≡ 0
@@ -108,34 +119,45 @@ none-run t (suc n) = omega (arith, none-run t n)
 
 -- a new thread is active or initial
 abbrev IsNewThread : PlainBoard → Thread → Type 0
-IsNewThread b row = (is_active row.stage ≡ not (is_initial row.stage)) × IsFineThread b row
+IsNewThread b row = (is_active row.stage ≡ not (is_initial row.stage)) × IsFineThread b 0 row
 
 made-new : (b : PlainBoard) (name : List ℕ) (base slice : ℕ) (core : Option ℕ) (started : Bool) → IsNewThread b (new_thread name base slice core started)
-made-new b name base slice core true = (refl, (refl, refl, λ is. omega arith))
-made-new b name base slice core false = (refl, (refl, refl, λ is. omega arith))
+made-new b name base slice core true = (refl, (refl, tt, λ is. omega arith))
+made-new b name base slice core false = (refl, (refl, tt, λ is. omega arith))
 
 scripts-new : (b : PlainBoard) (defs : List ThreadDef) → AllByRecursion (IsNewThread b) (map new_script_thread defs)
 scripts-new b [] = tt
 scripts-new b (def ∷ defs) = (made-new b def.name def.prio def.slice def.core def.started, scripts-new b defs)
 
-shell-new : (b : PlainBoard) (shell : Option ℕ) → AllByRecursion (IsNewThread b) (shell_threads shell)
-shell-new b None = tt
-shell-new b (Some prio) = (made-new b (codes "tshell") prio 10 None true, tt)
+own-new : (b : PlainBoard) (name : List ℕ) (prio : Option ℕ) → AllByRecursion (IsNewThread b) (own_threads name prio)
+own-new b name None = tt
+own-new b name (Some prio) = (made-new b name prio 10 None true, tt)
 
-shell-length : (shell : Option ℕ) → length (shell_threads shell) ≡ (if is_some shell then 1 else 0)
-shell-length None = refl
-shell-length (Some prio) = refl
+own-length : (name : List ℕ) (prio : Option ℕ) → length (own_threads name prio) ≡ (if is_some prio then 1 else 0)
+own-length name None = refl
+own-length name (Some prio) = refl
 
 new-count : (b : PlainBoard) → length (new_threads b) ≡ thread_count b
-new-count b = omega (arith, length-append (shell_threads b.shell) (map new_script_thread b.threads), shell-length b.shell, length-map b.threads new_script_thread)
+new-count b = omega (
+  arith,
+  length-append (own_threads (codes "tshell") b.shell ++ own_threads (codes "tsoft") b.soft) (map new_script_thread b.threads),
+  length-append (own_threads (codes "tshell") b.shell) (own_threads (codes "tsoft") b.soft),
+  own-length (codes "tshell") b.shell,
+  own-length (codes "tsoft") b.soft,
+  length-map b.threads new_script_thread,
+)
 
 pub all-reverse : {A : Type 0} (P : A → Type 0) (xs : List A) → AllByRecursion P xs → AllByRecursion P (reverse xs)
 all-reverse P [] all = tt
 all-reverse P (x ∷ xs) all = subst (AllByRecursion P) (sym (reverse_onto xs x [])) (all-append P (reverse xs) (x ∷ []) (all-reverse P xs all.1) (all.0, tt))
 
-timers-new : (defs : List TimerDef) → AllByRecursion (λ (def : TimerDef). (1 ≤ def.time) × IsTrue (is_timed_action def.call)) defs → AllByRecursion IsFineTimer (map new_timer defs)
-timers-new [] all = tt
-timers-new (def ∷ defs) all = (all.0, timers-new defs all.1)
+-- what the laws of runs need of a timer of the board
+abbrev IsProperTimer : TimerDef → Type 0
+IsProperTimer def = (1 ≤ def.time) × (def.time ≤ 2147483647) × IsTrue (is_timed_action def.call)
+
+timers-new : (b : PlainBoard) (defs : List TimerDef) → AllByRecursion IsProperTimer defs → AllByRecursion (Contains b.timers) defs → AllByRecursion (IsFineTimer b) (map new_timer defs)
+timers-new b [] all known = tt
+timers-new b (def ∷ defs) all known = ((all.0.0, all.0.1, all.0.2, (def, known.0, refl, refl, refl)), timers-new b defs all.1 known.1)
 
 none-due : (timers : List Timer) (armed : List (ArmedRow Alarm)) → AllByRecursion (IsTimerRow timers) armed → tally (λ (row : ArmedRow Alarm). eqb row.due 0) armed ≡ 0
 none-due timers [] all = refl
@@ -171,20 +193,24 @@ defs-owned defs = all-weaker (λ (def : TimerDef). list_any (λ (timer : Timer).
 pub opened-kept : (b : PlainBoard) → IsProper b → Kept (still b 0) (open_state b)
 unfolding open_state
 opened-kept b proper = subst (λ (s : State). Kept (still b 0) (record s { ready = filter (λ t. not (is_initial (thread_at s t).stage)) (thread_numbers s) })) (sym from.state) kept where
-  timers : AllByRecursion (λ (def : TimerDef). (1 ≤ def.time) × IsTrue (is_timed_action def.call)) b.timers
-  timers = recursion_from_All (λ (def : TimerDef). (1 ≤ def.time) × IsTrue (is_timed_action def.call)) b.timers proper.timers
+  timers : AllByRecursion IsProperTimer b.timers
+  timers = recursion_from_All IsProperTimer b.timers proper.timers
 
   all_timers : List Timer
   all_timers = (unstarted_state b).timers
 
+  startable : AllByRecursion (IsStartable all_timers) b.timers
+  startable = all-both IsProperTimer (λ (def : TimerDef). is_owned all_timers (OfTimer def.name) ≡ true) (IsStartable all_timers) b.timers (λ def is owner. (is.0, is.1, owner)) timers (defs-owned b.timers)
+
   from : IsArmedFrom all_timers (unstarted_state b) (fold with_auto_timer (unstarted_state b) b.timers)
-  from = auto-armed all_timers (unstarted_state b) b.timers (all-both _ (λ (def : TimerDef). is_owned all_timers (OfTimer def.name) ≡ true) (λ (def : TimerDef). (1 ≤ def.time) × (is_owned all_timers (OfTimer def.name) ≡ true)) b.timers (λ def is owner. (is.0, owner)) timers (defs-owned b.timers)) (names-apart b.timers proper.names) (none-fresh b.timers) (λ alarm. omega arith) tt
+  from = auto-armed all_timers (unstarted_state b) b.timers startable (names-apart b.timers proper.names) (none-fresh b.timers) (λ alarm. omega arith) tt tt
 
   threads : List Thread
   threads = new_threads b
 
   news : AllByRecursion (IsNewThread b) threads
-  news = all-append (IsNewThread b) (shell_threads b.shell) (map new_script_thread b.threads) (shell-new b b.shell) (scripts-new b b.threads)
+  news = all-append (IsNewThread b) (own_threads (codes "tshell") b.shell ++ own_threads (codes "tsoft") b.soft) (map new_script_thread b.threads)
+      (all-append (IsNewThread b) (own_threads (codes "tshell") b.shell) (own_threads (codes "tsoft") b.soft) (own-new b (codes "tshell") b.shell) (own-new b (codes "tsoft") b.soft)) (scripts-new b b.threads)
 
   starts : ℕ → Bool
   starts t = not (is_initial (stage_at threads t))
@@ -199,17 +225,18 @@ opened-kept b proper = subst (λ (s : State). Kept (still b 0) (record s { ready
 
   kept : Kept (still b 0) (record (unstarted_state b) { armed = from.armed; numbers = from.numbers; ready = filter starts (range_with_len 0 (length threads)) })
   kept = record {
-    tick_is = refl;
+    moment_is = refl;
     live = λ some on. omega arith;
     ends = λ halt is. absurd cc;
     count = new-count b;
     cores = length-replicate b.cores None;
     placed = placed;
     rows = all-weaker (IsTimerRow all_timers) (IsRowKept 1 threads) from.armed (λ row is. (is.0, is.1 threads)) from.rows;
+    bounded = from.bounded;
     due_few = omega (arith, none-due all_timers from.armed from.rows);
     single = from.single;
     owned = all-weaker (IsTimerRow all_timers) (IsOwned all_timers) from.armed (λ row is. is.2) from.rows;
-    fine = all-weaker (IsNewThread b) (IsFineThread b) threads (λ row is. is.1) news;
+    fine = all-weaker (IsNewThread b) (IsFineThread b 0) threads (λ row is. is.1) news;
     nest_runs = λ n is. absurd cc;
-    timers_fine = all-reverse IsFineTimer (map new_timer b.timers) (timers-new b.timers timers);
+    timers_fine = all-reverse (IsFineTimer b) (map new_timer b.timers) (timers-new b b.timers timers (recursion_from_All (Contains b.timers) b.timers (All-contains_itself b.timers)));
   }

@@ -1,15 +1,16 @@
 -- While a sleep lasts, each tick but its last one changes the tick alone.
-use Rattle.std.proofs.Common.{◌≡◌, ◌≢◌, ◌+◌, ◌≤◌, ◌<◌, ◌∷◌, [], ◌++◌, ℕ, zero, suc, List, Option, Some, None, Bool, true, false, not, ◌||◌, is_some, cond, length, eqb, refl, sym, ap, ◌∙◌, subst, arith, eqb-true, ne_eqb, filter, map, add-zero}
+use Rattle.std.proofs.Common.{◌≡◌, ◌≢◌, ◌+◌, ◌*◌, ◌≤◌, ◌<◌, ◌∷◌, [], ◌++◌, ℕ, zero, suc, List, Option, Some, None, Bool, true, false, not, ◌||◌, is_some, cond, length, eqb, refl, sym, ap, ◌∙◌, subst, arith, eqb-true, ne_eqb, filter, map, add-zero}
 use Rattle.std.specs.List.{AllByRecursion, fold, list_any}
 use Rattle.std.proofs.lemmas.Bool.{eqb-false}
-use Rattle.rt_plain.specs.declared.board.Arrival.{Arrival}
+use Rattle.std.proofs.Math.Nat.{div-mul-le_self, div-le_of_le-mul, mul_comm}
 use Rattle.rt_plain.specs.PlainBoard.{PlainBoard}
-use Rattle.rt_plain.specs.State.{State, Device, Alarm, ArmedRow, is_among}
+use Rattle.rt_plain.specs.State.{State, Device, Arriving, Alarm, ArmedRow, is_among}
 use Rattle.rt_plain.specs.Effects.{Effect, no_effect, each_effect, and_then}
 use Rattle.rt_plain.specs.DeviceCalls.{is_sending, is_busy, registered_devices, sent, arrival_effect}
 use Rattle.rt_plain.specs.Due.{due, by_number, due_rows_effect}
 use Rattle.rt_plain.specs.Ticks.{with_slice_used, next_tick_state, alarms_effect, deliveries, transmissions, with_until_halt, tick_effect}
-use Rattle.rt_plain.specs.Sleeps.{first_from, must_end, moments_of, sleep_length, ticks, is_empty}
+use Rattle.rt_plain.specs.LpClock.{back}
+use Rattle.rt_plain.specs.Sleeps.{first_from, must_end, moments_of, wanted_length, sleep_length, ticks, is_empty}
 use Rattle.rt_plain.specs.Steps.{is_all_idle}
 use Rattle.rt_plain.proofs.OpenLemmas.{all-reverse}
 use Rattle.rt_plain.proofs.TestLemmas.{and-right, not-false, or-left, or-right}
@@ -64,20 +65,20 @@ chain-none a d t u s one two three four = rw (one, two, three, four) refl
 
 -- nothing is to happen at this tick
 record IsFreeTick (b : PlainBoard) (s : State) : Type 0 where
-  undue : is_among (map (λ (row : ArmedRow Alarm). row.due) s.armed) s.tick ≡ false
-  nothing : is_among (map (λ (a : Arrival). a.tick) s.arrivals) s.tick ≡ false
-  early : eqb s.tick b.until ≡ false
+  undue : is_among (map (λ (row : ArmedRow Alarm). row.due) s.armed) s.moment ≡ false
+  nothing : is_among (map (λ (a : Arriving). a.moment) s.arrivals) s.moment ≡ false
+  early : eqb s.moment b.until ≡ false
   silent : list_any is_sending s.devices ≡ false
 
 alarms-none : (b : PlainBoard) (s : State) → IsFreeTick b s → alarms_effect b s ≡ no_effect s
 alarms-none b s free = subst (λ (rows : List (ArmedRow Alarm)). due_rows_effect b (length rows) rows s ≡ no_effect s) (sym none) refl where
   none : due s ≡ []
-  none = ap by_number (filter-none (λ (row : ArmedRow Alarm). row.due) s.tick s.armed free.undue).0
+  none = ap by_number (filter-none (λ (row : ArmedRow Alarm). row.due) s.moment s.armed free.undue).0
 
 deliveries-none : (b : PlainBoard) (s : State) → IsFreeTick b s → deliveries s ≡ no_effect s
 deliveries-none b s free =
-    let both : (filter (λ (a : Arrival). eqb a.tick s.tick) s.arrivals ≡ []) × (filter (λ (a : Arrival). not (eqb a.tick s.tick)) s.arrivals ≡ s.arrivals) = filter-none (λ (a : Arrival). a.tick) s.tick s.arrivals free.nothing in
-    subst (λ (arrivals : List Arrival). each_effect arrival_effect arrivals (record s { arrivals = filter (λ (a : Arrival). not (eqb a.tick s.tick)) s.arrivals }) ≡ no_effect s) (sym both.0) (ap (λ (arrivals : List Arrival). no_effect (record s { arrivals = arrivals })) both.1)
+    let both : (filter (λ (a : Arriving). eqb a.moment s.moment) s.arrivals ≡ []) × (filter (λ (a : Arriving). not (eqb a.moment s.moment)) s.arrivals ≡ s.arrivals) = filter-none (λ (a : Arriving). a.moment) s.moment s.arrivals free.nothing in
+    subst (λ (arrivals : List Arriving). each_effect arrival_effect arrivals (record s { arrivals = filter (λ (a : Arriving). not (eqb a.moment s.moment)) s.arrivals }) ≡ no_effect s) (sym both.0) (ap (λ (arrivals : List Arriving). no_effect (record s { arrivals = arrivals })) both.1)
 
 transmissions-none : (b : PlainBoard) (s : State) → IsFreeTick b s → transmissions s ≡ no_effect s
 transmissions-none b s free = sends-none (registered_devices s) s (all-reverse (λ (d : Device). is_sending d ≡ false) s.devices (none-sending s.devices free.silent))
@@ -85,40 +86,48 @@ transmissions-none b s free = sends-none (registered_devices s) s (all-reverse (
 until-none : (b : PlainBoard) (s : State) → IsFreeTick b s → with_until_halt b s ≡ s
 until-none b s free = rw free.early refl
 
-tick-none : (b : PlainBoard) (s : State) → list_any is_some s.running ≡ false → IsFreeTick b (record s { tick = s.tick + 1 }) → tick_effect b s ≡ no_effect (record s { tick = s.tick + 1 })
+tick-none : (b : PlainBoard) (s : State) → list_any is_some s.running ≡ false → IsFreeTick b (record s { moment = s.moment + 1 }) → tick_effect b s ≡ no_effect (record s { moment = s.moment + 1 })
 tick-none b s idle free =
-    let later : State = record s { tick = s.tick + 1 } in
+    let later : State = record s { moment = s.moment + 1 } in
     chain-none (alarms_effect b (next_tick_state s)) deliveries transmissions (with_until_halt b) later
     (subst (λ (u : State). alarms_effect b u ≡ no_effect later) (sym (slices-stay s.running later idle)) (alarms-none b later free)) (deliveries-none b later free) (transmissions-none b later free) (until-none b later free)
 
 -- the moments of a sleep that are still ahead
 abbrev IsFreeFor : PlainBoard → State → ℕ → Type 0
-IsFreeFor b s n = (k : ℕ) → 1 ≤ k → k ≤ n → is_among (moments_of b s) (s.tick + k) ≡ false
+IsFreeFor b s n = (k : ℕ) → 1 ≤ k → k ≤ n → is_among (moments_of b s) (s.moment + k) ≡ false
 
-free-next : (b : PlainBoard) (s : State) → is_busy s ≡ false → is_among (moments_of b s) (s.tick + 1) ≡ false → IsFreeTick b (record s { tick = s.tick + 1 })
+free-next : (b : PlainBoard) (s : State) → is_busy s ≡ false → is_among (moments_of b s) (s.moment + 1) ≡ false → IsFreeTick b (record s { moment = s.moment + 1 })
 free-next b s silent free =
     let dues : List ℕ = map (λ (row : ArmedRow Alarm). row.due) s.armed in
-    let comes : List ℕ = map (λ (a : Arrival). a.tick) s.arrivals in
-    let last : (is_among (dues ++ comes) (s.tick + 1) ≡ false) × (is_among (b.until ∷ []) (s.tick + 1) ≡ false) = among-append (dues ++ comes) (b.until ∷ []) (s.tick + 1) free in
-    let both : (is_among dues (s.tick + 1) ≡ false) × (is_among comes (s.tick + 1) ≡ false) = among-append dues comes (s.tick + 1) last.0 in
-    let apart : b.until ≢ s.tick + 1 = eqb-false b.until (s.tick + 1) (or-left (eqb b.until (s.tick + 1)) false last.1) in
-    record { undue = both.0; nothing = both.1; early = ne_eqb (s.tick + 1) b.until (λ e. apart (sym e)); silent = silent }
+    let comes : List ℕ = map (λ (a : Arriving). a.moment) s.arrivals in
+    let last : (is_among (dues ++ comes) (s.moment + 1) ≡ false) × (is_among (b.until ∷ []) (s.moment + 1) ≡ false) = among-append (dues ++ comes) (b.until ∷ []) (s.moment + 1) free in
+    let both : (is_among dues (s.moment + 1) ≡ false) × (is_among comes (s.moment + 1) ≡ false) = among-append dues comes (s.moment + 1) last.0 in
+    let apart : b.until ≢ s.moment + 1 = eqb-false b.until (s.moment + 1) (or-left (eqb b.until (s.moment + 1)) false last.1) in
+    record { undue = both.0; nothing = both.1; early = ne_eqb (s.moment + 1) b.until (λ e. apart (sym e)); silent = silent }
 
 -- ticks that follow another action
 abbrev ticks_from : PlainBoard → ℕ → Effect → Effect
 ticks_from b n e = let f = ticks b n e.state in record { state = f.state; lines = e.lines ++ f.lines }
 
-skip : (b : PlainBoard) (n : ℕ) (s : State) → list_any is_some s.running ≡ false → is_busy s ≡ false → IsFreeFor b s n → ticks b n s ≡ no_effect (record s { tick = s.tick + n })
-skip b zero s idle silent free = rw (add-zero s.tick) refl
+skip : (b : PlainBoard) (n : ℕ) (s : State) → list_any is_some s.running ≡ false → is_busy s ≡ false → IsFreeFor b s n → ticks b n s ≡ no_effect (record s { moment = s.moment + n })
+skip b zero s idle silent free = rw (add-zero s.moment) refl
 skip b (suc n) s idle silent free =
-    let later : State = record s { tick = s.tick + 1 } in
+    let later : State = record s { moment = s.moment + 1 } in
     let one : tick_effect b s ≡ no_effect later = tick-none b s idle (free-next b s silent (free 1 (omega arith) (omega arith))) in
-    let moved : (k : ℕ) → s.tick + 1 + k ≡ s.tick + (k + 1) = λ k. omega arith in
-    let rest : ticks b n later ≡ no_effect (record s { tick = s.tick + 1 + n }) = skip b n later idle silent (λ k low high. subst (λ m. is_among (moments_of b s) m ≡ false) (sym (moved k)) (free (k + 1) (omega arith) (omega (arith, high)))) in
-    let total : s.tick + 1 + n ≡ s.tick + suc n = omega arith in
-    ap (ticks_from b n) one ∙ rest ∙ ap (λ (t : ℕ). no_effect (record s { tick = t })) total
+    let moved : (k : ℕ) → s.moment + 1 + k ≡ s.moment + (k + 1) = λ k. omega arith in
+    let rest : ticks b n later ≡ no_effect (record s { moment = s.moment + 1 + n }) = skip b n later idle silent (λ k low high. subst (λ m. is_among (moments_of b s) m ≡ false) (sym (moved k)) (free (k + 1) (omega arith) (omega (arith, high)))) in
+    let total : s.moment + 1 + n ≡ s.moment + suc n = omega arith in
+    ap (ticks_from b n) one ∙ rest ∙ ap (λ (t : ℕ). no_effect (record s { moment = t })) total
+
+-- the last whole count isn't after the moment
+pub back-early : (h q moment : ℕ) → back h q moment ≤ moment
+back-early h q moment = div-le_of_le-mul h (omega (arith, div-mul-le_self (moment * h) q, mul_comm moment h))
+
+-- so a sleep is no longer than wanted
+length-wanted : (b : PlainBoard) (s : State) → sleep_length b s ≤ wanted_length b s
+length-wanted b s = omega (arith, back-early b.lp_h b.lp_q (s.moment + wanted_length b s))
 
 -- within a sleep's length nothing is to happen
-pub skipped-ticks : (b : PlainBoard) (n : ℕ) (s : State) → is_all_idle s ≡ true → is_busy s ≡ false → n < sleep_length b s → ticks b n s ≡ no_effect (record s { tick = s.tick + n })
+pub skipped-ticks : (b : PlainBoard) (n : ℕ) (s : State) → is_all_idle s ≡ true → is_busy s ≡ false → n < sleep_length b s → ticks b n s ≡ no_effect (record s { moment = s.moment + n })
 skipped-ticks b n s idle silent short = skip b n s (not-false (list_any is_some s.running) (and-right (is_empty s.ready) _ idle)) silent
-    (λ k low high. or-left (is_among (moments_of b s) (s.tick + k)) (eqb k b.lpmax) (before-first (must_end (moments_of b s) b.lpmax s.tick) b.lpmax 1 k low (omega (arith, high, short))))
+    (λ k low high. or-left (is_among (moments_of b s) (s.moment + k)) (eqb k b.lpmax) (before-first (must_end (moments_of b s) b.lpmax s.moment) b.lpmax 1 k low (omega (arith, high, short, length-wanted b s))))

@@ -9,8 +9,8 @@ use Rattle.rt_plain.specs.Opening.{open_state}
 use Rattle.rt_plain.specs.Runs.{IsMade, IsRun, IsRunIn, is_over, is_over_in}
 use Rattle.rt_plain.specs.Sound.{is_active, place_count, IsProper, IsSound, IsWaitedFor}
 use Rattle.rt_plain.proofs.RunLemmas.{IsRun-keeps}
-use Rattle.rt_plain.proofs.TallyLemmas.{one_if, tally-count, all-weaker}
-use Rattle.rt_plain.proofs.Invariant.{places, IsRowKept, IsWaited, nest-core, fine-at}
+use Rattle.rt_plain.proofs.TallyLemmas.{one_if, tally-count, all-weaker, all-both}
+use Rattle.rt_plain.proofs.Invariant.{places, IsRowKept, IsRowBounded, IsWaited, nest-core, fine-at}
 use Rattle.rt_plain.proofs.TickLemmas.{still}
 use Rattle.rt_plain.proofs.StepLemmas.{KeptAt, KeptDid, event-kept}
 use Rattle.rt_plain.proofs.OpenLemmas.{opened-kept}
@@ -50,11 +50,13 @@ kept-sound b s proper kept = record {
   next = λ t is. (fine-at (still b kept.0) s t kept.1).2 is;
   threads = kept.1.count;
   cores = kept.1.cores;
-  ahead = All-from_recursion (λ row. s.tick < row.due) s.armed (all-weaker (IsRowKept (kept.0 + 1) s.threads) (λ row. s.tick < row.due) s.armed (λ row is. omega (arith, is.0, kept.1.tick_is)) kept.1.rows);
+  ahead = All-from_recursion IsAheadRow s.armed (all-both (IsRowKept (kept.0 + 1) s.threads) (IsRowBounded kept.0 s.numbers) IsAheadRow s.armed (λ row is near. (omega (arith, is.0, kept.1.moment_is), omega (arith, near.0, kept.1.moment_is))) kept.1.rows kept.1.bounded);
   waits = All-from_recursion (λ row. IsWaitedFor s row.alarm) s.armed (all-weaker (IsRowKept (kept.0 + 1) s.threads) (λ row. IsWaitedFor s row.alarm) s.armed (λ row is. row-waits s row.alarm is.1) kept.1.rows);
   alone = λ alarm. omega (arith, tally-count (λ (row : ArmedRow Alarm). is_alarm alarm row.alarm) s.armed, kept.1.single alarm);
   nest_runs = λ n is. (nest-core (still b kept.0) s n kept.1 is, (kept.1.nest_runs n is).0, (kept.1.nest_runs n is).1);
-}
+} where
+  IsAheadRow : ArmedRow Alarm → Type 0
+  IsAheadRow row = (s.moment < row.due) × (row.due ≤ s.moment + 2147483647)
 
 pub reached-sound : (b : PlainBoard) (journal : List Entry) (s : State) → IsProper b → IsRun b (open_state b) journal s → IsSound b s
 reached-sound b journal s timed run = kept-sound b s timed (reached-kept b journal s timed run)
