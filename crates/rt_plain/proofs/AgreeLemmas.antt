@@ -83,7 +83,7 @@ all_digits (d ∷ ds) h = h
 decimal-unbroken : (n : ℕ) → IsUnbroken (decimal n)
 decimal-unbroken n = digits-unbroken (decimal n) (all_digits (decimal n) (decimal-digits n))
 
-abbrev AreUnbroken : List (List ℕ) → Type 0
+abbrev pub AreUnbroken : List (List ℕ) → Type 0
 AreUnbroken [] = Unit {0}
 AreUnbroken (l ∷ ls) = IsUnbroken l × AreUnbroken ls
 
@@ -117,7 +117,7 @@ cut-unbroken counts = words-unbroken (codes "cut") (map decimal counts) (refl, (
 -- ---- the first lines of a text
 
 -- the text of lines
-abbrev all_lines : List (List ℕ) → List ℕ
+abbrev pub all_lines : List (List ℕ) → List ℕ
 all_lines [] = []
 all_lines (l ∷ ls) = l ++ 10 ∷ all_lines ls
 
@@ -132,7 +132,7 @@ count_step b bs false h = omega (arith, h, length-lengthen b (whole_lines_of bs)
 whole-cons : (b : ℕ) (bs : List ℕ) → whole_lines (b ∷ bs) ≡ cond (eqb b 10) 1 0 + whole_lines bs
 whole-cons b bs = sum_by-cons (λ (byte : ℕ). cond (eqb byte 10) 1 0) b bs
 
-lines-count : (text : List ℕ) → length (whole_lines_of text) ≡ whole_lines text
+pub lines-count : (text : List ℕ) → length (whole_lines_of text) ≡ whole_lines text
 lines-count [] = refl
 lines-count (b ∷ bs) = count_step b bs (eqb b 10) (lines-count bs) ∙ sym (whole-cons b bs)
 
@@ -157,14 +157,14 @@ unbroken_step : (b : ℕ) (ls : List (List ℕ)) (t : Bool) → eqb b 10 ≡ t �
 unbroken_step b ls true e h = (tt, h)
 unbroken_step b ls false e h = lengthen-unbroken b ls e h
 
-lines-unbroken : (text : List ℕ) → AreUnbroken (whole_lines_of text)
+pub lines-unbroken : (text : List ℕ) → AreUnbroken (whole_lines_of text)
 lines-unbroken [] = tt
 lines-unbroken (b ∷ bs) = unbroken_step b (whole_lines_of bs) (eqb b 10) refl (lines-unbroken bs)
 
 -- ---- bytes in front of others
 
 -- nothing, or what ends with a newline
-abbrev IsEnded : List ℕ → Type 0
+abbrev pub IsEnded : List ℕ → Type 0
 IsEnded [] = Unit {0}
 IsEnded (b ∷ []) = b ≡ 10
 IsEnded (b ∷ c ∷ bs) = IsEnded (c ∷ bs)
@@ -289,11 +289,11 @@ header-event n e tick h = ap (λ (ws : List (List ℕ)). event_named (word_at ws
 -- ---- what stands behind a place of a trace
 
 -- the `cut` line of the entries so far, with its newline
-abbrev cut_line : PlainBoard → List Entry → List ℕ
+abbrev pub cut_line : PlainBoard → List Entry → List ℕ
 cut_line b done = with_newline (cut_now b done)
 
 -- the text of further entries, of a cut behind so many of them, and of an end
-abbrev rest_text : PlainBoard → List Entry → List Entry → Option ℕ → Option End → List ℕ
+abbrev pub rest_text : PlainBoard → List Entry → List Entry → Option ℕ → Option End → List ℕ
 rest_text b done es None end = entries_text (length done + 1) es ++ end_text end
 rest_text b done es (Some zero) end = cut_line b done ++ (entries_text (length done + 1) es ++ end_text end)
 rest_text b done [] (Some (suc at)) end = end_text end
@@ -327,48 +327,43 @@ CutsAt counted es (Some at) = (counted ≡ false) × (at ≤ length es)
 abbrev IsInTime : PlainBoard → List Entry → State → Type 0
 IsInTime b journal s = (halt : Halt) → s.halt ≡ None → halt_of b s ≡ Some halt → is_over b journal ≡ false
 
--- the first k of the lines go on as the text of a run does
-record GoesOn (b : PlainBoard) (r : Reader) (k : ℕ) (ls : List (List ℕ)) : Type 0 where
+-- the first k of the lines go on as the text of a run does, with this end line and these bytes behind them
+pub record GoesOn (b : PlainBoard) (r : Reader) (k : ℕ) (ls : List (List ℕ)) (end : Option End) (rest : List ℕ) : Type 0 where
   pub journal : List Entry
   pub state : State
   pub run : IsRunIn (is_over b) b r.done r.state journal state
   pub in_time : IsInTime b (r.done ++ journal) state
   pub cut : Option ℕ
   pub cuts : CutsAt r.counted journal cut
-  pub end : Option End
   pub ends : EndsAt b state end
-  pub rest : List ℕ
   pub begins : all_lines (take k ls) ++ rest ≡ r.due ++ rest_text b r.done journal cut end
 
 -- ---- no run has more of the lines than the pass counts
 
-abbrev Others : PlainBoard → List (List ℕ) → Type 0
-Others b ls = (next : Reader) (m : ℕ) → m ≤ length ls → IsEnded next.due → GoesOn b next m ls → m ≤ pass b next ls
-
-more : (b : PlainBoard) (ls : List (List ℕ)) (k : ℕ) (read : Read) (next : Reader) → read ≡ On next → k ≤ pass b next ls → suc k ≤ counted_on read (λ n. pass b n ls)
-more b ls k read next is le = subst (λ (x : Read). suc k ≤ counted_on x (λ n. pass b n ls)) (sym is) (omega arith)
+-- what is read of a line, where the line and k of those behind it go on as the text of a run does
+abbrev pub Reads : PlainBoard → ℕ → List (List ℕ) → Option End → List ℕ → Read → Type 0
+Reads b k ls end rest Stop = ⊥
+Reads b k ls end rest Ends = k ≡ 0
+Reads b k ls end rest (On next) = IsEnded next.due × GoesOn b next k ls end rest
 
 -- the line and what stands behind it
 behind-line : (l : List ℕ) (k : ℕ) (ls : List (List ℕ)) (rest tail : List ℕ) → all_lines (take (suc k) (l ∷ ls)) ++ rest ≡ tail → l ++ 10 ∷ (all_lines (take k ls) ++ rest) ≡ tail
 behind-line l k ls rest tail e = sym (append_assoc l (10 ∷ all_lines (take k ls)) rest) ∙ e
 
-most-due : (b : PlainBoard) (r : Reader) (d : ℕ) (due : List ℕ) (l : List ℕ) (ls : List (List ℕ)) (k : ℕ) → r.due ≡ d ∷ due → k ≤ length ls → IsUnbroken l → IsEnded (d ∷ due) → Others b ls → GoesOn b r (suc k) (l ∷ ls) → suc k ≤ counted_on (read_line b r l (d ∷ due)) (λ n. pass b n ls)
-most-due b r d due l ls k is le u e ih g =
-    let whole : l ++ 10 ∷ (all_lines (take k ls) ++ g.rest) ≡ (d ∷ due) ++ rest_text b r.done g.journal g.cut g.end = behind-line l k ls g.rest _ g.begins ∙ ap (λ (x : List ℕ). x ++ rest_text b r.done g.journal g.cut g.end) is in
-    let s = strip l (all_lines (take k ls) ++ g.rest) d due (rest_text b r.done g.journal g.cut g.end) u e whole in
-    let next : Reader = record { state = r.state; done = r.done; counted = r.counted; due = s.0 } in
-    more b ls k (read_line b r l (d ∷ due)) next (ap (read_due r) s.1)
-    (ih next k le s.2 (record { journal = g.journal; state = g.state; run = g.run; in_time = g.in_time; cut = g.cut; cuts = g.cuts; end = g.end; ends = g.ends; rest = g.rest; begins = s.3 }))
+reads-due : (b : PlainBoard) (r : Reader) (d : ℕ) (due : List ℕ) (l : List ℕ) (ls : List (List ℕ)) (k : ℕ) (end : Option End) (rest : List ℕ) → r.due ≡ d ∷ due → IsUnbroken l → IsEnded (d ∷ due) → GoesOn b r (suc k) (l ∷ ls) end rest → Reads b k ls end rest (read_line b r l (d ∷ due))
+reads-due b r d due l ls k end rest is u e g =
+    let whole : l ++ 10 ∷ (all_lines (take k ls) ++ rest) ≡ (d ∷ due) ++ rest_text b r.done g.journal g.cut end = behind-line l k ls rest _ g.begins ∙ ap (λ (x : List ℕ). x ++ rest_text b r.done g.journal g.cut end) is in
+    let s = strip l (all_lines (take k ls) ++ rest) d due (rest_text b r.done g.journal g.cut end) u e whole in
+    subst (Reads b k ls end rest) (sym (ap (read_due r) s.1)) (s.2, record { journal = g.journal; state = g.state; run = g.run; in_time = g.in_time; cut = g.cut; cuts = g.cuts; ends = g.ends; begins = s.3 })
 
-most-cut : (b : PlainBoard) (r : Reader) (l : List ℕ) (ls : List (List ℕ)) (k : ℕ) (journal : List Entry) (state : State) (end : Option End) (rest : List ℕ) → k ≤ length ls → IsUnbroken l → Others b ls → r.counted ≡ false → IsRunIn (is_over b) b r.done r.state journal state → IsInTime b (r.done ++ journal) state → EndsAt b state end →
-    l ++ 10 ∷ (all_lines (take k ls) ++ rest) ≡ cut_line b r.done ++ (entries_text (length r.done + 1) journal ++ end_text end) → suc k ≤ counted_on (read_outer b r l) (λ n. pass b n ls)
-most-cut b r l ls k journal state end rest le u ih uncounted run time ends is =
+reads-cut : (b : PlainBoard) (r : Reader) (l : List ℕ) (ls : List (List ℕ)) (k : ℕ) (journal : List Entry) (state : State) (end : Option End) (rest : List ℕ) → IsUnbroken l → r.counted ≡ false → IsRunIn (is_over b) b r.done r.state journal state → IsInTime b (r.done ++ journal) state → EndsAt b state end →
+    l ++ 10 ∷ (all_lines (take k ls) ++ rest) ≡ cut_line b r.done ++ (entries_text (length r.done + 1) journal ++ end_text end) → Reads b k ls end rest (read_outer b r l)
+reads-cut b r l ls k journal state end rest u uncounted run time ends is =
     let counts = owner_counts b.cores (events_of r.done) in
     let same = line-same l (cut_now b r.done) (all_lines (take k ls) ++ rest) (entries_text (length r.done + 1) journal ++ end_text end) u (cut-unbroken counts) (is ∙ append_assoc (cut_now b r.done) (10 ∷ []) (entries_text (length r.done + 1) journal ++ end_text end)) in
     let next : Reader = record { state = r.state; done = r.done; counted = true; due = [] } in
     let read : read_outer b r l ≡ On next = when (bytes_eq l (cut_now b r.done)) (read_cut r) _ ((bytes_eq-Decides l (cut_now b r.done)).1 same.0) ∙ unless r.counted Stop (On next) uncounted in
-    more b ls k (read_outer b r l) next read
-    (ih next k le tt (record { journal = journal; state = state; run = run; in_time = time; cut = None; cuts = tt; end = end; ends = ends; rest = rest; begins = same.1 }))
+    subst (Reads b k ls end rest) (sym read) (tt, record { journal = journal; state = state; run = run; in_time = time; cut = None; cuts = tt; ends = ends; begins = same.1 })
 
 no_lines : (k : ℕ) (ls : List (List ℕ)) (rest : List ℕ) → k ≤ length ls → all_lines (take k ls) ++ rest ≡ [] → k ≡ 0
 no_lines zero ls rest le e = refl
@@ -376,16 +371,15 @@ no_lines (suc k) [] rest le e = absurd (omega arith)
 no_lines (suc k) ([] ∷ ls) rest le e = absurd cc
 no_lines (suc k) ((c ∷ l) ∷ ls) rest le e = absurd cc
 
-most-end : (b : PlainBoard) (r : Reader) (l : List ℕ) (ls : List (List ℕ)) (k : ℕ) (e : End) (rest : List ℕ) → k ≤ length ls → IsUnbroken l → EndsAt b r.state (Some e) → l ++ 10 ∷ (all_lines (take k ls) ++ rest) ≡ end_text (Some e) → suc k ≤ counted_on (read_outer b r l) (λ n. pass b n ls)
-most-end b r l ls k e rest le u ends is =
+reads-end : (b : PlainBoard) (r : Reader) (l : List ℕ) (ls : List (List ℕ)) (k : ℕ) (e : End) (rest : List ℕ) → k ≤ length ls → IsUnbroken l → EndsAt b r.state (Some e) → l ++ 10 ∷ (all_lines (take k ls) ++ rest) ≡ end_text (Some e) → Reads b k ls (Some e) rest (read_outer b r l)
+reads-end b r l ls k e rest le u ends is =
     let row = row_text (Ended e.halt e.tick) in
     let same = line-same l row (all_lines (take k ls) ++ rest) [] u (end-unbroken e.halt e.tick) is in
-    let none : k ≡ 0 = no_lines k ls rest le same.1 in
     let no_cut : bytes_eq l (cut_now b r.done) ≡ false = ap (λ (x : List ℕ). bytes_eq x (cut_now b r.done)) same.0 ∙ end-no_cut e.halt e.tick (owner_counts b.cores (events_of r.done)) in
     let here : is_end_of l (shown b r.state.moment) (halt_of b r.state) ≡ true =
     ap (is_end_of l (shown b r.state.moment)) ends.0 ∙ ap (λ (t : ℕ). bytes_eq l (row_text (Ended e.halt t))) ends.1 ∙ (bytes_eq-Decides l row).1 same.0 in
     let read : read_outer b r l ≡ Ends = unless (bytes_eq l (cut_now b r.done)) (read_cut r) _ no_cut ∙ when (is_end_of l (shown b r.state.moment) (halt_of b r.state)) Ends _ here in
-    subst (λ (x : Read). suc k ≤ counted_on x (λ n. pass b n ls)) (sym read) (omega arith)
+    subst (Reads b k ls (Some e) rest) (sym read) (no_lines k ls rest le same.1)
 
 -- the entry is what its event made
 made-entry : (b : PlainBoard) (s new : State) (e : Entry) → IsMade b s e new → record { event = e.event; tick = entry_tick b e.event s new; lines = e.lines } ≡ e
@@ -421,9 +415,9 @@ entry-split n e tail =
     append_assoc (with_newline (header n e.event e.tick)) (lines_text e.lines) tail
     ∙ append_assoc (header n e.event e.tick) (10 ∷ []) (lines_text e.lines ++ tail)
 
-most-entry : (b : PlainBoard) (r : Reader) (l : List ℕ) (ls : List (List ℕ)) (k : ℕ) (e : Entry) (es : List Entry) (state : State) (cut : Option ℕ) (end : Option End) (rest : List ℕ) → b.cores ≤ 256 → k ≤ length ls → IsUnbroken l → Others b ls → (run : IsRunIn (is_over b) b r.done r.state (e ∷ es) state) → IsInTime b (r.done ++ e ∷ [] ++ es) state → CutsAt r.counted es cut → EndsAt b state end →
-    l ++ 10 ∷ (all_lines (take k ls) ++ rest) ≡ entry_text (length r.done + 1) e ++ rest_text b (r.done ++ e ∷ []) es cut end → suc k ≤ counted_on (read_outer b r l) (λ n. pass b n ls)
-most-entry b r l ls k e es state cut end rest few le u ih run time cuts ends is =
+reads-entry : (b : PlainBoard) (r : Reader) (l : List ℕ) (ls : List (List ℕ)) (k : ℕ) (e : Entry) (es : List Entry) (state : State) (cut : Option ℕ) (end : Option End) (rest : List ℕ) → b.cores ≤ 256 → IsUnbroken l → (run : IsRunIn (is_over b) b r.done r.state (e ∷ es) state) → IsInTime b (r.done ++ e ∷ [] ++ es) state → CutsAt r.counted es cut → EndsAt b state end →
+    l ++ 10 ∷ (all_lines (take k ls) ++ rest) ≡ entry_text (length r.done + 1) e ++ rest_text b (r.done ++ e ∷ []) es cut end → Reads b k ls end rest (read_outer b r l)
+reads-entry b r l ls k e es state cut end rest few u run time cuts ends is =
     let n = length r.done + 1 in
     let mid = run.0 in
     let made : IsMade b r.state e mid = run.2 in
@@ -444,46 +438,50 @@ most-entry b r l ls k e es state cut end rest few le u ih run time cuts ends is 
     ∙ ap (λ (x : Entry). read_entry b r l x mid) (made-entry b r.state mid e made)
     ∙ when (may_follow b r e mid) (on_entry r e mid (behind_front (with_newline l) (entry_text n e))) Stop follows
     ∙ ap (on_entry r e mid) front in
-    more b ls k (read_outer b r l) next read
-    (ih next k le (ended-lines e.lines) (record { journal = es; state = state; run = run.3; in_time = time; cut = cut; cuts = cuts; end = end; ends = ends; rest = rest; begins = same.1 }))
+    subst (Reads b k ls end rest) (sym read) (ended-lines e.lines, record { journal = es; state = state; run = run.3; in_time = time; cut = cut; cuts = cuts; ends = ends; begins = same.1 })
 
-nothing : (l x : List ℕ) → l ++ 10 ∷ x ≡ [] → ⊥
+pub nothing : (l x : List ℕ) → l ++ 10 ∷ x ≡ [] → ⊥
 nothing [] x e = absurd cc
 nothing (b ∷ l) x e = absurd cc
 
 -- where no entry has bytes left
-most-outer : (b : PlainBoard) (r : Reader) (l : List ℕ) (ls : List (List ℕ)) (k : ℕ) → b.cores ≤ 256 → k ≤ length ls → IsUnbroken l → Others b ls → (journal : List Entry) (state : State) (cut : Option ℕ) (end : Option End) (rest : List ℕ) → IsRunIn (is_over b) b r.done r.state journal state → IsInTime b (r.done ++ journal) state → CutsAt r.counted journal cut → EndsAt b state end →
-    l ++ 10 ∷ (all_lines (take k ls) ++ rest) ≡ rest_text b r.done journal cut end → suc k ≤ counted_on (read_outer b r l) (λ n. pass b n ls)
-most-outer b r l ls k few le u ih journal state (Some zero) end rest run time cuts ends is = most-cut b r l ls k journal state end rest le u ih cuts.0 run time ends is
-most-outer b r l ls k few le u ih [] state (Some (suc at)) end rest run time cuts ends is = absurd (let far = cuts.1 in omega arith)
-most-outer b r l ls k few le u ih [] state None None rest run time cuts ends is = absurd (nothing l (all_lines (take k ls) ++ rest) is)
-most-outer b r l ls k few le u ih [] state None (Some e) rest run time cuts ends is =
-    most-end b r l ls k e rest le u (subst (λ (s : State). EndsAt b s (Some e)) run ends) is
-most-outer b r l ls k few le u ih (e ∷ es) state None end rest run time cuts ends is =
-    most-entry b r l ls k e es state None end rest few le u ih run (subst (λ (j : List Entry). IsInTime b j state) (sym (append_assoc r.done (e ∷ []) es)) time) tt ends (is ∙ rest-entry b r.done e es None end)
-most-outer b r l ls k few le u ih (e ∷ es) state (Some (suc at)) end rest run time cuts ends is =
-    most-entry b r l ls k e es state (Some at) end rest few le u ih run (subst (λ (j : List Entry). IsInTime b j state) (sym (append_assoc r.done (e ∷ []) es)) time) (cuts.0, (let near = cuts.1 in omega arith)) ends is
+reads-outer : (b : PlainBoard) (r : Reader) (l : List ℕ) (ls : List (List ℕ)) (k : ℕ) → b.cores ≤ 256 → k ≤ length ls → IsUnbroken l → (journal : List Entry) (state : State) (cut : Option ℕ) (end : Option End) (rest : List ℕ) → IsRunIn (is_over b) b r.done r.state journal state → IsInTime b (r.done ++ journal) state → CutsAt r.counted journal cut → EndsAt b state end →
+    l ++ 10 ∷ (all_lines (take k ls) ++ rest) ≡ rest_text b r.done journal cut end → Reads b k ls end rest (read_outer b r l)
+reads-outer b r l ls k few le u journal state (Some zero) end rest run time cuts ends is = reads-cut b r l ls k journal state end rest u cuts.0 run time ends is
+reads-outer b r l ls k few le u [] state (Some (suc at)) end rest run time cuts ends is = absurd (let far = cuts.1 in omega arith)
+reads-outer b r l ls k few le u [] state None None rest run time cuts ends is = absurd (nothing l (all_lines (take k ls) ++ rest) is)
+reads-outer b r l ls k few le u [] state None (Some e) rest run time cuts ends is =
+    reads-end b r l ls k e rest le u (subst (λ (s : State). EndsAt b s (Some e)) run ends) is
+reads-outer b r l ls k few le u (e ∷ es) state None end rest run time cuts ends is =
+    reads-entry b r l ls k e es state None end rest few u run (subst (λ (j : List Entry). IsInTime b j state) (sym (append_assoc r.done (e ∷ []) es)) time) tt ends (is ∙ rest-entry b r.done e es None end)
+reads-outer b r l ls k few le u (e ∷ es) state (Some (suc at)) end rest run time cuts ends is =
+    reads-entry b r l ls k e es state (Some at) end rest few u run (subst (λ (j : List Entry). IsInTime b j state) (sym (append_assoc r.done (e ∷ []) es)) time) (cuts.0, (let near = cuts.1 in omega arith)) ends is
 
-most-line : (b : PlainBoard) (r : Reader) (due : List ℕ) (l : List ℕ) (ls : List (List ℕ)) (k : ℕ) → r.due ≡ due → b.cores ≤ 256 → k ≤ length ls → IsUnbroken l → IsEnded due → Others b ls → GoesOn b r (suc k) (l ∷ ls) → suc k ≤ counted_on (read_line b r l due) (λ n. pass b n ls)
-most-line b r (d ∷ due) l ls k is few le u e ih g = most-due b r d due l ls k is le u e ih g
-most-line b r [] l ls k is few le u e ih g =
-    most-outer b r l ls k few le u ih g.journal g.state g.cut g.end g.rest g.run g.in_time g.cuts g.ends
-    (behind-line l k ls g.rest _ g.begins ∙ ap (λ (x : List ℕ). x ++ rest_text b r.done g.journal g.cut g.end) is)
+pub reads-line : (b : PlainBoard) (r : Reader) (due : List ℕ) (l : List ℕ) (ls : List (List ℕ)) (k : ℕ) (end : Option End) (rest : List ℕ) → r.due ≡ due → b.cores ≤ 256 → k ≤ length ls → IsUnbroken l → IsEnded due → GoesOn b r (suc k) (l ∷ ls) end rest → Reads b k ls end rest (read_line b r l due)
+reads-line b r (d ∷ due) l ls k end rest is few le u e g = reads-due b r d due l ls k end rest is u e g
+reads-line b r [] l ls k end rest is few le u e g =
+    reads-outer b r l ls k few le u g.journal g.state g.cut end rest g.run g.in_time g.cuts g.ends
+    (behind-line l k ls rest _ g.begins ∙ ap (λ (x : List ℕ). x ++ rest_text b r.done g.journal g.cut end) is)
 
-most : (b : PlainBoard) (ls : List (List ℕ)) → b.cores ≤ 256 → AreUnbroken ls → Others b ls
-most b ls few u r zero le e g = omega arith
-most b [] few u r (suc k) le e g = absurd (omega arith)
-most b (l ∷ ls) few u r (suc k) le e g = most-line b r r.due l ls k refl few (omega arith) u.0 e (most b ls few u.1) g
+counted : (b : PlainBoard) (k : ℕ) (ls : List (List ℕ)) (end : Option End) (rest : List ℕ) (read : Read) → Reads b k ls end rest read → ((next : Reader) → IsEnded next.due → GoesOn b next k ls end rest → k ≤ pass b next ls) → suc k ≤ counted_on read (λ n. pass b n ls)
+counted b k ls end rest Stop reads more = absurd reads
+counted b k ls end rest Ends reads more = omega (arith, reads)
+counted b k ls end rest (On next) reads more = omega (arith, more next reads.0 reads.1)
+
+most : (b : PlainBoard) (ls : List (List ℕ)) → b.cores ≤ 256 → AreUnbroken ls → (r : Reader) (m : ℕ) (end : Option End) (rest : List ℕ) → m ≤ length ls → IsEnded r.due → GoesOn b r m ls end rest → m ≤ pass b r ls
+most b ls few u r zero end rest le e g = omega arith
+most b [] few u r (suc k) end rest le e g = absurd (omega arith)
+most b (l ∷ ls) few u r (suc k) end rest le e g = counted b k ls end rest (read_line b r l r.due) (reads-line b r r.due l ls k end rest refl few (omega arith) u.0 e g) (λ next ended more. most b ls few u.1 next k end rest (omega arith) ended more)
 
 -- ---- the lines that the pass counts begin the text of a run
 
 -- the entries so far are a run within its limits
-record IsFine (b : PlainBoard) (r : Reader) : Type 0 where
+pub record IsFine (b : PlainBoard) (r : Reader) : Type 0 where
   pub run : IsRunIn (is_over b) b [] (open_state b) r.done r.state
   pub in_time : IsInTime b r.done r.state
 
 -- no line more
-none-more : (b : PlainBoard) (r : Reader) (ls : List (List ℕ)) → IsFine b r → GoesOn b r 0 ls
+none-more : (b : PlainBoard) (r : Reader) (ls : List (List ℕ)) → IsFine b r → GoesOn b r 0 ls None (r.due ++ [])
 none-more b r ls fine = record {
   journal = [];
   state = r.state;
@@ -491,36 +489,32 @@ none-more b r ls fine = record {
   in_time = λ halt live halts. subst (λ (j : List Entry). is_over b j ≡ false) (sym (append-nil r.done)) (fine.in_time halt live halts);
   cut = None;
   cuts = tt;
-  end = None;
   ends = tt;
-  rest = r.due ++ [];
   begins = refl;
 }
 
 -- what a line that was read leaves
-abbrev Leaves : PlainBoard → Reader → List ℕ → Read → Type 0
+abbrev pub Leaves : PlainBoard → Reader → List ℕ → Read → Type 0
 Leaves b r l Stop = Unit {0}
 Leaves b r l Ends = (h : Halt) × (r.due ≡ []) × (halt_of b r.state ≡ Some h) × (l ≡ row_text (Ended h (shown b r.state.moment)))
-Leaves b r l (On next) = IsFine b next × ((k : ℕ) (ls : List (List ℕ)) → GoesOn b next k ls → GoesOn b r (suc k) (l ∷ ls))
+Leaves b r l (On next) = IsFine b next × ((k : ℕ) (ls : List (List ℕ)) (end : Option End) (rest : List ℕ) → GoesOn b next k ls end rest → GoesOn b r (suc k) (l ∷ ls) end rest)
 
 leaves-due : (b : PlainBoard) (r : Reader) (l : List ℕ) (o : Option (List ℕ)) → IsFine b r → behind_front (with_newline l) r.due ≡ o → Leaves b r l (read_due r o)
 leaves-due b r l None fine is = tt
 leaves-due b r l (Some due) fine is = (
   record { run = fine.run; in_time = fine.in_time },
-  λ k ls g. record {
+  λ k ls end rest g. record {
     journal = g.journal;
     state = g.state;
     run = g.run;
     in_time = g.in_time;
     cut = g.cut;
     cuts = g.cuts;
-    end = g.end;
     ends = g.ends;
-    rest = g.rest;
     begins = (
-        let tail = rest_text b r.done g.journal g.cut g.end in
+        let tail = rest_text b r.done g.journal g.cut end in
         let here : r.due ≡ with_newline l ++ due = front-is (with_newline l) r.due due is in
-        append_assoc l (10 ∷ all_lines (take k ls)) g.rest
+        append_assoc l (10 ∷ all_lines (take k ls)) rest
         ∙ ap (λ (x : List ℕ). l ++ 10 ∷ x) g.begins
         ∙ sym (append_assoc l (10 ∷ []) (due ++ tail))
         ∙ sym (append_assoc (with_newline l) due tail)
@@ -537,20 +531,18 @@ leaves-cut : (b : PlainBoard) (r : Reader) (l : List ℕ) (counted : Bool) → I
 leaves-cut b r l true fine due is here = tt
 leaves-cut b r l false fine due is here = (
   record { run = fine.run; in_time = fine.in_time },
-  λ k ls g. record {
+  λ k ls end rest g. record {
     journal = g.journal;
     state = g.state;
     run = g.run;
     in_time = g.in_time;
     cut = Some 0;
     cuts = (is, omega arith);
-    end = g.end;
     ends = g.ends;
-    rest = g.rest;
     begins = (
-        let tail = entries_text (length r.done + 1) g.journal ++ end_text g.end in
-        append_assoc l (10 ∷ all_lines (take k ls)) g.rest
-        ∙ ap (λ (x : List ℕ). l ++ 10 ∷ x) (g.begins ∙ ap (λ (c : Option ℕ). rest_text b r.done g.journal c g.end) (cut-none true g.journal g.cut g.cuts))
+        let tail = entries_text (length r.done + 1) g.journal ++ end_text end in
+        append_assoc l (10 ∷ all_lines (take k ls)) rest
+        ∙ ap (λ (x : List ℕ). l ++ 10 ∷ x) (g.begins ∙ ap (λ (c : Option ℕ). rest_text b r.done g.journal c end) (cut-none true g.journal g.cut g.cuts))
         ∙ ap (λ (x : List ℕ). x ++ 10 ∷ tail) here
         ∙ sym (append_assoc (cut_now b r.done) (10 ∷ []) tail)
         ∙ ap (λ (x : List ℕ). x ++ (cut_line b r.done ++ tail)) (sym due));
@@ -576,26 +568,24 @@ leaves-entry : (b : PlainBoard) (r : Reader) (l : List ℕ) (e : Entry) (s : Sta
 leaves-entry b r l e s None fine none made going late is = tt
 leaves-entry b r l e s (Some due) fine none made going late is = (
   record { run = IsRunIn-snoc (is_over b) b [] (open_state b) r.state s r.done e fine.run going made; in_time = late_off b (r.done ++ e ∷ []) s late },
-  λ k ls g. record {
+  λ k ls end rest g. record {
     journal = e ∷ g.journal;
     state = g.state;
     run = (s, going, made, g.run);
     in_time = subst (λ (j : List Entry). IsInTime b j g.state) (append_assoc r.done (e ∷ []) g.journal) g.in_time;
     cut = later g.cut;
     cuts = cuts-later r.counted e g.journal g.cut g.cuts;
-    end = g.end;
     ends = g.ends;
-    rest = g.rest;
     begins = (
-        let tail = rest_text b (r.done ++ e ∷ []) g.journal g.cut g.end in
+        let tail = rest_text b (r.done ++ e ∷ []) g.journal g.cut end in
         let here : entry_text (length r.done + 1) e ≡ with_newline l ++ due = front-is (with_newline l) (entry_text (length r.done + 1) e) due is in
-        append_assoc l (10 ∷ all_lines (take k ls)) g.rest
+        append_assoc l (10 ∷ all_lines (take k ls)) rest
         ∙ ap (λ (x : List ℕ). l ++ 10 ∷ x) g.begins
         ∙ sym (append_assoc l (10 ∷ []) (due ++ tail))
         ∙ sym (append_assoc (with_newline l) due tail)
         ∙ ap (λ (x : List ℕ). x ++ tail) (sym here)
-        ∙ sym (rest-entry b r.done e g.journal g.cut g.end)
-        ∙ ap (λ (x : List ℕ). x ++ rest_text b r.done (e ∷ g.journal) (later g.cut) g.end) (sym none));
+        ∙ sym (rest-entry b r.done e g.journal g.cut end)
+        ∙ ap (λ (x : List ℕ). x ++ rest_text b r.done (e ∷ g.journal) (later g.cut) end) (sym none));
   },
 )
 
@@ -629,30 +619,37 @@ leaves-outer : (b : PlainBoard) (r : Reader) (l : List ℕ) (t : Bool) → IsFin
 leaves-outer b r l true fine none is = leaves-cut b r l r.counted fine none refl (is_word l (cut_now b r.done) is)
 leaves-outer b r l false fine none is = leaves-end b r l (is_end_of l (shown b r.state.moment) (halt_of b r.state)) fine none refl
 
-leaves-line : (b : PlainBoard) (r : Reader) (l due : List ℕ) → IsFine b r → r.due ≡ due → Leaves b r l (read_line b r l due)
+pub leaves-line : (b : PlainBoard) (r : Reader) (l due : List ℕ) → IsFine b r → r.due ≡ due → Leaves b r l (read_line b r l due)
 leaves-line b r l [] fine is = leaves-outer b r l (bytes_eq l (cut_now b r.done)) fine is refl
 leaves-line b r l (d ∷ due) fine is = leaves-due b r l (behind_front (with_newline l) (d ∷ due)) fine (ap (behind_front (with_newline l)) is)
 
-holds-read : (b : PlainBoard) (r : Reader) (l : List ℕ) (ls : List (List ℕ)) (read : Read) → IsFine b r → Leaves b r l read → ((next : Reader) → IsFine b next → GoesOn b next (pass b next ls) ls) → GoesOn b r (counted_on read (λ n. pass b n ls)) (l ∷ ls)
-holds-read b r l ls Stop fine left ih = none-more b r (l ∷ ls) fine
-holds-read b r l ls Ends fine left ih = record {
+-- an end line is the last one
+pub end-here : (b : PlainBoard) (r : Reader) (l : List ℕ) (ls : List (List ℕ)) → IsFine b r → (left : Leaves b r l Ends) → GoesOn b r 1 (l ∷ ls) (Some (record { halt = left.0; tick = shown b r.state.moment })) []
+end-here b r l ls fine left = record {
   journal = [];
   state = r.state;
   run = refl;
   in_time = λ halt live halts. subst (λ (j : List Entry). is_over b j ≡ false) (sym (append-nil r.done)) (fine.in_time halt live halts);
   cut = None;
   cuts = tt;
-  end = Some (record { halt = left.0; tick = shown b r.state.moment });
   ends = (left.2, refl);
-  rest = [];
   begins = append-nil (l ++ 10 ∷ []) ∙ ap with_newline left.3 ∙ ap (λ (x : List ℕ). x ++ end_text (Some (record { halt = left.0; tick = shown b r.state.moment }))) (sym left.1);
 }
-holds-read b r l ls (On next) fine left ih =
-    let sum : suc (pass b next ls) ≡ 1 + pass b next ls = omega arith in
-    subst (λ (k : ℕ). GoesOn b r k (l ∷ ls)) sum (left.1 (pass b next ls) ls (ih next left.0))
 
-holds : (b : PlainBoard) (ls : List (List ℕ)) (r : Reader) → IsFine b r → GoesOn b r (pass b r ls) ls
-holds b [] r fine = none-more b r [] fine
+-- some end line, or none, and some bytes behind
+abbrev Goes : PlainBoard → Reader → ℕ → List (List ℕ) → Type 0
+Goes b r k ls = (end : Option End) × (rest : List ℕ) × GoesOn b r k ls end rest
+
+holds-read : (b : PlainBoard) (r : Reader) (l : List ℕ) (ls : List (List ℕ)) (read : Read) → IsFine b r → Leaves b r l read → ((next : Reader) → IsFine b next → Goes b next (pass b next ls) ls) → Goes b r (counted_on read (λ n. pass b n ls)) (l ∷ ls)
+holds-read b r l ls Stop fine left ih = (None, r.due ++ [], none-more b r (l ∷ ls) fine)
+holds-read b r l ls Ends fine left ih = (Some (record { halt = left.0; tick = shown b r.state.moment }), [], end-here b r l ls fine left)
+holds-read b r l ls (On next) fine left ih =
+    let g = ih next left.0 in
+    let sum : suc (pass b next ls) ≡ 1 + pass b next ls = omega arith in
+    (g.0, g.1, subst (λ (k : ℕ). GoesOn b r k (l ∷ ls) g.0 g.1) sum (left.1 (pass b next ls) ls g.0 g.1 g.2))
+
+holds : (b : PlainBoard) (ls : List (List ℕ)) (r : Reader) → IsFine b r → Goes b r (pass b r ls) ls
+holds b [] r fine = (None, r.due ++ [], none-more b r [] fine)
 holds b (l ∷ ls) r fine = holds-read b r l ls (read_line b r l r.due) fine (leaves-line b r l r.due fine refl) (holds b ls)
 
 within-read : (b : PlainBoard) (ls : List (List ℕ)) (read : Read) → ((next : Reader) → pass b next ls ≤ length ls) → counted_on read (λ n. pass b n ls) ≤ suc (length ls)
@@ -686,11 +683,11 @@ cut-text b done (e ∷ es) (suc at) end le =
     ∙ sym (append_assoc (entry_text n e) front (cut_line b (done ++ (e ∷ take at es)) ++ back))
 
 -- the place of a cut
-abbrev place_of : Option Cut → Option ℕ
+abbrev pub place_of : Option Cut → Option ℕ
 place_of None = None
 place_of (Some cut) = Some cut.at
 
-abbrev cut_at : PlainBoard → List Entry → Option ℕ → Option Cut
+abbrev pub cut_at : PlainBoard → List Entry → Option ℕ → Option Cut
 cut_at b journal None = None
 cut_at b journal (Some at) = Some (record { at = at; counts = record { items = owner_counts b.cores (events_of (take at journal)) } })
 
@@ -704,17 +701,17 @@ cut-body b journal at end le =
     ∙ ap (λ (n : ℕ). front ++ (mark ++ (entries_text n (drop at journal) ++ end_text end))) far
     ∙ sym (cut-text b [] journal at end le)
 
-whole-text : (b : PlainBoard) (journal : List Entry) (cut : Option Cut) (end : Option End) → IsCutOf b journal cut → trace_text journal cut end ≡ rest_text b [] journal (place_of cut) end
+pub whole-text : (b : PlainBoard) (journal : List Entry) (cut : Option Cut) (end : Option End) → IsCutOf b journal cut → trace_text journal cut end ≡ rest_text b [] journal (place_of cut) end
 whole-text b journal None end h = refl
 whole-text b journal (Some cut) end h =
     ap (λ (counts : List ℕ). trace_text journal (Some (record { at = cut.at; counts = record { items = counts } })) end) h.counts
     ∙ cut-body b journal cut.at end h.at
 
-cuts-of : (b : PlainBoard) (journal : List Entry) (cut : Option Cut) → IsCutOf b journal cut → CutsAt false journal (place_of cut)
+pub cuts-of : (b : PlainBoard) (journal : List Entry) (cut : Option Cut) → IsCutOf b journal cut → CutsAt false journal (place_of cut)
 cuts-of b journal None h = tt
 cuts-of b journal (Some cut) h = (refl, h.at)
 
-cut-is : (b : PlainBoard) (journal : List Entry) (cut : Option ℕ) → CutsAt false journal cut → IsCutOf b journal (cut_at b journal cut)
+pub cut-is : (b : PlainBoard) (journal : List Entry) (cut : Option ℕ) → CutsAt false journal cut → IsCutOf b journal (cut_at b journal cut)
 cut-is b journal None h = tt
 cut-is b journal (Some at) h = record { at = h.1; counts = refl }
 
@@ -722,16 +719,20 @@ place-at : (b : PlainBoard) (journal : List Entry) (cut : Option ℕ) → place_
 place-at b journal None = refl
 place-at b journal (Some at) = refl
 
+-- the text of a run with a cut at this place
+pub cut-text_is : (b : PlainBoard) (journal : List Entry) (cut : Option ℕ) (end : Option End) → CutsAt false journal cut → trace_text journal (cut_at b journal cut) end ≡ rest_text b [] journal cut end
+cut-text_is b journal cut end cuts = whole-text b journal (cut_at b journal cut) end (cut-is b journal cut cuts) ∙ ap (λ (c : Option ℕ). rest_text b [] journal c end) (place-at b journal cut)
+
 run-state : (over : List Entry → Bool) (b : PlainBoard) (done : List Entry) (old : State) (journal : List Entry) (new other : State) → IsRunIn over b done old journal new → IsRunIn over b done old journal other → new ≡ other
 run-state over b done old journal new other run also = (run-same b old new other journal journal refl (IsRunIn-run over b done old new journal run) (IsRunIn-run over b done old other journal also)).1
 
-ends-of : (b : PlainBoard) (journal : List Entry) (state : State) (end : Option End) → IsRunIn (is_over b) b [] (open_state b) journal state → IsEndOf b journal end → EndsAt b state end
+pub ends-of : (b : PlainBoard) (journal : List Entry) (state : State) (end : Option End) → IsRunIn (is_over b) b [] (open_state b) journal state → IsEndOf b journal end → EndsAt b state end
 ends-of b journal state None run h = tt
 ends-of b journal state (Some e) run h =
     let same : h.state ≡ state = run-state (is_over b) b [] (open_state b) journal h.state state h.within.is_run run in
     (ap (halt_of b) (sym same) ∙ h.halted, ap (λ (s : State). shown b s.moment) (sym same) ∙ h.at)
 
-end-is : (b : PlainBoard) (journal : List Entry) (state : State) (end : Option End) → IsRunWithin b journal state → EndsAt b state end → IsEndOf b journal end
+pub end-is : (b : PlainBoard) (journal : List Entry) (state : State) (end : Option End) → IsRunWithin b journal state → EndsAt b state end → IsEndOf b journal end
 end-is b journal state None within h = tt
 end-is b journal state (Some e) within h = record { state = state; within = within; halted = h.0; at = h.1 }
 
@@ -742,7 +743,10 @@ agreement-by-pass b text few starts =
     let k = lines_agreeing b text in
     let count = lines-count text in
     let fine : IsFine b (reader b) = record { run = refl; in_time = λ halt live halts. starts } in
-    let g = holds b ls (reader b) fine in
+    let held = holds b ls (reader b) fine in
+    let end = held.0 in
+    let rest = held.1 in
+    let g = held.2 in
     let whole : k ≤ whole_lines text = omega (arith, within b ls (reader b), count) in
     record {
       agrees = record {
@@ -752,23 +756,19 @@ agreement-by-pass b text few starts =
         is_run = record { is_run = g.run; last = g.in_time };
         cut = cut_at b g.journal g.cut;
         cut_is = cut-is b g.journal g.cut g.cuts;
-        end = g.end;
-        end_is = end-is b g.journal g.state g.end (record { is_run = g.run; last = g.in_time }) g.ends;
-        rest = g.rest;
-        begins = ap (λ (x : List ℕ). x ++ g.rest) (first-are k text whole) ∙ g.begins
-            ∙ ap (λ (c : Option ℕ). rest_text b [] g.journal c g.end) (sym (place-at b g.journal g.cut))
-            ∙ sym (whole-text b g.journal (cut_at b g.journal g.cut) g.end (cut-is b g.journal g.cut g.cuts));
+        end = end;
+        end_is = end-is b g.journal g.state end (record { is_run = g.run; last = g.in_time }) g.ends;
+        rest = rest;
+        begins = ap (λ (x : List ℕ). x ++ rest) (first-are k text whole) ∙ g.begins ∙ sym (cut-text_is b g.journal g.cut end g.cuts);
       };
-      greatest = λ m a. most b ls few (lines-unbroken text) (reader b) m (let le = a.whole in omega (arith, count)) tt (record {
+      greatest = λ m a. most b ls few (lines-unbroken text) (reader b) m a.end a.rest (let le = a.whole in omega (arith, count)) tt (record {
         journal = a.journal;
         state = a.state;
         run = a.is_run.is_run;
         in_time = a.is_run.last;
         cut = place_of a.cut;
         cuts = cuts-of b a.journal a.cut a.cut_is;
-        end = a.end;
         ends = ends-of b a.journal a.state a.end a.is_run.is_run a.end_is;
-        rest = a.rest;
         begins = ap (λ (x : List ℕ). x ++ a.rest) (sym (first-are m text a.whole)) ∙ a.begins ∙ whole-text b a.journal a.cut a.end a.cut_is;
       });
     }

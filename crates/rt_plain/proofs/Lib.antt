@@ -27,6 +27,7 @@ pub mod TailLemmas
 pub mod LineTableLemmas
 pub mod TraceLemmas
 pub mod AgreeLemmas
+pub mod GoodLemmas
 pub mod LineLemmas
 pub mod BoardLemmas
 pub mod SkipLemmas
