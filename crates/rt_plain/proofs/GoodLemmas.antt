@@ -1,16 +1,15 @@
 -- A trace is good exactly where one pass takes all its lines, the last one as the end line, and nothing follows them.
-use Rattle.std.proofs.Common.{◌≡◌, ℕ, zero, suc, ◌+◌, ◌≤◌, Bool, true, false, cond, eqb, List, [], ◌∷◌, ◌++◌, length, take, Option, Some, None, refl, sym, ap, ◌∙◌, subst, arith, append_assoc, eqb-true}
+use Rattle.std.proofs.Common.{◌≡◌, ℕ, zero, suc, ◌+◌, ◌≤◌, Bool, true, false, cond, eqb, List, [], ◌∷◌, ◌++◌, length, take, Option, Some, None, refl, sym, ap, ◌∙◌, arith, append_assoc, eqb-true}
 use Rattle.std.proofs.lemmas.List.{append-nil, take_all}
 use Rattle.rt_plain.specs.declared.entry.Entry.{Entry}
 use Rattle.rt_plain.specs.PlainBoard.{PlainBoard}
 use Rattle.rt_plain.specs.Runs.{is_over}
-use Rattle.rt_plain.specs.Texts.{End, entry_text, entries_text, end_text, trace_text, body_text}
+use Rattle.rt_plain.specs.Texts.{End, entry_text, entries_text, end_text, body_text}
 use Rattle.rt_plain.specs.TraceRows.{Ended, row_text, lengthen, whole_lines_of}
 use Rattle.rt_plain.specs.Replays.{IsGood, whole_lines, is_whole}
 use Rattle.rt_plain.specs.Agreement.{Reader, Read, Stop, On, read_line, counted_on, pass, reader, lines_agreeing, ended_on, pass_ends, is_ended_pass}
 use Rattle.rt_plain.specs.Agreement.{End as Ends}
-use Rattle.rt_plain.specs.Sleeps.{is_empty}
-use Rattle.rt_plain.proofs.AgreeLemmas.{GoesOn, IsFine, Leaves, Reads, IsEnded, AreUnbroken, all_lines, rest_text, cut_at, place_of, cut_line, leaves-line, reads-line, lines-unbroken, lines-count, nothing, end-here, whole-text, cut-text_is, cuts-of, cut-is, ends-of, end-is}
+use Rattle.rt_plain.proofs.AgreeLemmas.{GoesOn, IsFine, Leaves, Reads, IsEnded, AreUnbroken, all_lines, rest_text, cut_at, place_of, cut_line, leaves-line, reads-line, lines-unbroken, lines-count, nothing, end-here, whole-text, cut-text_is, cuts-of, cut-is, end-is}
 
 -- ---- the lines of a text that ends with a newline
 
@@ -98,17 +97,19 @@ ends b (l ∷ ls) few u r e due g = finished b ls e (read_line b r l r.due) (rea
 pub pass-by-good : (b : PlainBoard) (text : List ℕ) → b.cores ≤ 256 → IsGood b text → (is_ended_pass b text ≡ true) × (is_whole text ≡ true)
 pass-by-good b text few good =
     let whole : is_whole text ≡ true = ap is_whole good.text_is ∙ line-last (body_text good.journal good.cut) (row_text (Ended good.end.halt good.end.tick)) in
-    let within = good.complete.within in
-    (ends b (whole_lines_of text) few (lines-unbroken text) (reader b) good.end tt (record {
-      journal = good.journal;
-      state = good.complete.state;
-      run = within.is_run;
-      in_time = within.last;
-      cut = place_of good.cut;
-      cuts = cuts-of b good.journal good.cut good.cut_is;
-      ends = (good.complete.halted, good.complete.at);
-      begins = all-taken text whole ∙ good.text_is ∙ whole-text b good.journal good.cut (Some good.end) good.cut_is;
-    }), whole)
+    let within = good.complete.within in (
+      ends b (whole_lines_of text) few (lines-unbroken text) (reader b) good.end tt (record {
+        journal = good.journal;
+        state = good.complete.state;
+        run = within.is_run;
+        in_time = within.last;
+        cut = place_of good.cut;
+        cuts = cuts-of b good.journal good.cut good.cut_is;
+        ends = (good.complete.halted, good.complete.at);
+        begins = all-taken text whole ∙ good.text_is ∙ whole-text b good.journal good.cut (Some good.end) good.cut_is;
+      }),
+      whole,
+    )
 
 -- ---- a pass that ends so counts all lines
 

@@ -15,7 +15,7 @@ use Rattle.rt_plain.specs.State.{State, Stage, Waiting, InCall, Thread, Timer, O
 use Rattle.rt_plain.specs.declared.line.Line.{Line}
 use Rattle.rt_plain.specs.Effects.{Effect, no_effect, line_effect, each_effect, wake_effect, retry_wake_effect, effect_for, without_alarm, due_of, is_alarm}
 use Rattle.rt_plain.specs.Waiting.{waiters, first_waiter, number_in, takes_sem, takes_mutex, receives_event, sends_mail, receives_mail, sends_message, receives_message, takes_block}
-use Rattle.rt_plain.specs.Outcome.{By, ByThread, ByTimer, Attempt, First, Again, refusal, with_value, with_text, missing_outcome}
+use Rattle.rt_plain.specs.Outcome.{By, ByThread, ByTimer, Attempt, First, refusal, with_value, with_text, missing_outcome}
 use Rattle.rt_plain.specs.SemCalls.{find_sem, sem_create, sem_take, sem_release_outcome, sem_release}
 use Rattle.rt_plain.specs.EventCalls.{Want, Wanting, find_event, event_create, event_recv, is_satisfied, flags_wake_effect, wanting_threads, satisfied_waiters, flags_left, event_send, with_event, want_of}
 use Rattle.rt_plain.specs.MutexCalls.{find_mutex, mutex_create, mutex_take_outcome, mutex_take, mutex_release_outcome, mutex_release, mutex_ceiling, with_mutex}

@@ -1,5 +1,5 @@
 -- An event has no more lines than the room.
-use Rattle.std.proofs.Common.{◌≡◌, ◌+◌, ◌-◌, ◌*◌, ◌≤◌, ◌∷◌, [], ◌++◌, ℕ, zero, suc, List, Option, Some, None, Bool, true, false, not, ◌&&◌, is_some, length, eqb, refl, sym, ap, ◌∙◌, subst, arith, map, reverse, if◌then◌else◌, length-append, suc-mul, mul-le-mul_left, add-one, ◌≢◌, filter}
+use Rattle.std.proofs.Common.{◌≡◌, ◌+◌, ◌-◌, ◌*◌, ◌≤◌, ◌∷◌, [], ◌++◌, ℕ, suc, List, Option, Some, None, Bool, true, false, not, ◌&&◌, is_some, length, eqb, refl, sym, ap, ◌∙◌, subst, arith, map, reverse, if◌then◌else◌, length-append, suc-mul, mul-le-mul_left, add-one, ◌≢◌, filter}
 use Rattle.std.specs.List.{fold, AllByRecursion, list_any}
 use Rattle.std.proofs.lemmas.List.{length-map, length-reverse}
 use Rattle.rt_base.specs.declared.codes.Event.{Event}

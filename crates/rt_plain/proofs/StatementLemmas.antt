@@ -10,7 +10,7 @@ use Rattle.rt_plain.specs.declared.board.ThreadDef.{ThreadDef}
 use Rattle.rt_plain.specs.declared.stmt.Stmt.{Stmt}
 use Rattle.rt_plain.specs.PlainBoard.{PlainBoard}
 use Rattle.rt_plain.specs.State.{State, Awaited, InCall, AtConsole, AtWorks, Retry, Thread, Timer, Device, Alarm, OfTimer, thread_at, with_thread, running_on, no_thread, Closed}
-use Rattle.rt_plain.specs.Effects.{Effect, no_effect}
+use Rattle.rt_plain.specs.Effects.{Effect}
 use Rattle.rt_plain.specs.Outcome.{ByThread, First, Again, Answer, Answers, Waits, Outcome}
 use Rattle.rt_plain.specs.Calls.{outcome_of, settled_effect}
 use Rattle.rt_plain.specs.Shell.{longer_line, prompt_effect, turn_effect, reading_effect, line_read_effect, shell_effect, console_bytes, with_received, with_console_bytes, console_name, is_newline}

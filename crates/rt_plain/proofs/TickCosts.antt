@@ -17,7 +17,7 @@ use Rattle.rt_plain.proofs.Invariant.{Frame, Kept, stage_at, is_owned, IsRowKept
 use Rattle.rt_plain.proofs.WakeLemmas.{console-waiter-waits}
 use Rattle.rt_plain.proofs.FuelLemmas.{range-among}
 use Rattle.rt_plain.proofs.TickLemmas.{still, firing, with_few, IsDueRow, due-length, due-rows, row-kept, filter-length, next-kept, alarms-kept}
-use Rattle.rt_plain.proofs.CostLemmas.{Stays, Costs, stays-same, stays-then, costs-more, costs-none, costs-then, costs-from, thread-costs, wake-costs, wake-pays, retry_wake-costs, for-costs}
+use Rattle.rt_plain.proofs.CostLemmas.{Stays, Costs, stays-then, costs-more, costs-none, costs-then, costs-from, thread-costs, wake-costs, wake-pays, retry_wake-costs, for-costs}
 use Rattle.rt_plain.proofs.CallCosts.{HasFew, device-costs, other-costs, sem_release-costs, disarmed-cost}
 use Rattle.rt_plain.proofs.WorkCosts.{fired-cost}
 use Rattle.rt_plain.proofs.StatementCosts.{settled-cost}

@@ -4,7 +4,6 @@ use Rattle.std.specs.List.{AllByRecursion, fold}
 use Rattle.std.proofs.lemmas.Slice.Eq.{bytes_eq-Decides}
 use Rattle.rt_base.specs.declared.codes.Halt.{Halt}
 use Rattle.rt_plain.specs.declared.line.Line.{Line}
-use Rattle.rt_plain.specs.declared.line.Fired.{Fired}
 use Rattle.rt_plain.specs.PlainBoard.{PlainBoard}
 use Rattle.rt_plain.specs.State.{State, Thread, Timer, Device, Alarm, OfThread, OfTimer, ArmedRow, thread_at}
 use Rattle.rt_plain.specs.Effects.{is_alarm, without_alarm, retry_wake_effect}
@@ -12,7 +11,7 @@ use Rattle.rt_plain.specs.Works.{with_work, work_waiter}
 use Rattle.rt_plain.specs.TimerKinds.{is_soft}
 use Rattle.rt_plain.specs.TimerCalls.{find_timer}
 use Rattle.rt_plain.specs.DeviceCalls.{find_device, with_device, console_waiter, indication_effect, notice_effect, arrival_effect_at, arrival_effect, is_sending, sent, registered_devices, ring_after}
-use Rattle.rt_plain.specs.Due.{put_by_number, by_number, due, timeout_code, timeout_effect, timer_action_effect, soft_timer_effect, fired_timer_effect, alarm_effect, fired_row_effect, due_rows_effect}
+use Rattle.rt_plain.specs.Due.{put_by_number, by_number, due, timeout_code, timeout_effect, soft_timer_effect, fired_timer_effect, alarm_effect, fired_row_effect, due_rows_effect}
 use Rattle.rt_plain.specs.Ticks.{thread_after_slice, with_slice_used, next_tick_state, alarms_effect, arrivals_now, deliveries, transmissions, with_until_halt, tick_effect}
 use Rattle.rt_plain.specs.Sound.{is_waiting}
 use Rattle.rt_plain.proofs.TallyLemmas.{one_if, tally, tally-last, tally-filter, tally-dropped, all-weaker, all-passing, all-both}

@@ -7,7 +7,7 @@ use Rattle.rt_plain.specs.declared.line.Fired.{Fired}
 use Rattle.rt_plain.specs.declared.stmt.Stmt.{Stmt}
 use Rattle.rt_plain.specs.PlainBoard.{PlainBoard}
 use Rattle.rt_plain.specs.State.{State, Timer, AtWorks, thread_at, with_thread}
-use Rattle.rt_plain.specs.Effects.{Effect, no_effect, line_effect, effect_for, retry_wake_effect, waiting_state}
+use Rattle.rt_plain.specs.Effects.{Effect, no_effect, effect_for, retry_wake_effect, waiting_state}
 use Rattle.rt_plain.specs.Outcome.{ByTimer, First}
 use Rattle.rt_plain.specs.Calls.{outcome_of}
 use Rattle.rt_plain.specs.TimerCalls.{find_timer}
