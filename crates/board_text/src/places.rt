@@ -4,8 +4,8 @@ ghost use Rattle.std.specs.List.{list_any};
 ghost use Rattle.rt_plain.specs.LineTable.{row};
 ghost use Rattle.rt_plain.specs.LpClock.{moment_after_counts};
 ghost use Rattle.rt_plain.specs.Opening.{arrival_moment};
-ghost use Rattle.rt_plain.specs.TimerKinds.{is_soft};
-ghost use Rattle.rt_plain.specs.BoardText.{is_out_of_order, limit_place, is_class_passed, is_limit_passed, is_twice, last_length, thread_limit, is_full, last_count, is_beyond, is_event_beyond, is_schedule_beyond, is_timer_call, is_timer_statement, is_barred, has_device, is_astray, placed, shell_name, soft_name, console_name};
+ghost use Rattle.rt_plain.specs.TimerKinds.{is_soft, is_timer_call, is_timer_statement};
+ghost use Rattle.rt_plain.specs.BoardText.{is_out_of_order, limit_place, is_class_passed, is_limit_passed, is_twice, last_length, thread_limit, is_full, last_count, is_beyond, is_event_beyond, is_schedule_beyond, is_barred, has_device, is_astray, placed, shell_name, soft_name, console_name};
 ghost use Rattle.board_text.specs.Drafts.{so_far, board_of};
 
 use crate::draft::Draft;

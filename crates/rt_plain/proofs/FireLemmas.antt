@@ -21,13 +21,13 @@ use Rattle.rt_plain.specs.EventCalls.{Wanting, find_event, flags_wake_effect, sa
 use Rattle.rt_plain.specs.MailboxCalls.{find_mailbox, has_mail_room, mail_put_outcome, with_mailbox}
 use Rattle.rt_plain.specs.QueueCalls.{find_queue, is_too_long, has_message_room, message_put_outcome, mq_urgent_outcome, with_queue}
 use Rattle.rt_plain.specs.TimerCalls.{find_timer, timer_start_effect, with_timer}
-use Rattle.rt_plain.specs.TimerKinds.{is_soft}
+use Rattle.rt_plain.specs.TimerKinds.{is_soft, is_timer_call, is_timer_action}
 use Rattle.rt_plain.specs.Works.{has_work, unwork_effect, without_work, with_work, work_waiter}
 use Rattle.rt_plain.specs.PowerCalls.{votes_for, with_votes}
 use Rattle.rt_plain.specs.Calls.{outcome_of}
 use Rattle.rt_plain.specs.DeviceCalls.{find_device, with_device, ring_after, console_waiter, indication_effect, notice_effect, arrival_effect_at, arrival_effect}
 use Rattle.rt_plain.specs.Due.{timer_effect, timer_action_effect, soft_timer_effect, fired_timer_effect, with_period, alarm_effect, fired_row_effect}
-use Rattle.rt_plain.specs.Sound.{is_timer_call, is_timer_action, IsWaitedFor}
+use Rattle.rt_plain.specs.Sound.{IsWaitedFor}
 use Rattle.rt_plain.proofs.TallyLemmas.{all-found}
 use Rattle.rt_plain.proofs.CallCosts.{HasFew, filter-fewer}
 use Rattle.rt_plain.proofs.CostLemmas.{Costs}
