@@ -420,7 +420,7 @@ mp_free-cost : {n : ℕ} (s : State) (name : List ℕ) (by : By) → CostsCall n
 mp_free-cost s name by = found-cost s (find_pool s name) (refusal s Code.Inval) (λ pool. thread_outcome s by (λ t core. mp_free_outcome pool (last_block pool t) s)) (refused s Code.Inval) (λ pool. given_back-cost s pool by)
 
 -- timers
--- the number of a row is paid for by a line of another
+-- an armed row takes a number
 pub armed-cost : (s : State) (timer : Timer) → Costs s (no_effect (with_timer_armed s timer)) 1
 armed-cost s timer = record { lines = omega arith; numbers = omega arith; stays = stays-parts s (with_timer_armed s timer) refl refl refl refl refl refl refl refl refl }
 

@@ -234,5 +234,8 @@ statement-cost b s t core has few = settled-cost b s s (thread_effect b t core s
 pub script-lines : (b : PlainBoard) (s : State) (t core : ℕ) (retry : Option Retry) → HasFew b → length (settled_effect b s (script_effect b t core retry s)).lines ≤ 3 * length s.threads + 4
 script-lines b s t core retry has = omega (arith, (settled-cost b s s (script_effect b t core retry s) 3 (script-cost b s t core retry has)).lines, tally-length (λ (row : Thread). is_waiting row.stage) s.threads)
 
+pub soft-lines : (b : PlainBoard) (s : State) (t : ℕ) → HasFew b → length (settled_effect b s (soft_effect b t s)).lines ≤ 3 * length s.threads + 4
+soft-lines b s t has = omega (arith, (settled-cost b s s (soft_effect b t s) 3 (soft-cost b s t has)).lines, tally-length (λ (row : Thread). is_waiting row.stage) s.threads)
+
 pub close-lines : (b : PlainBoard) (s : State) (t : ℕ) → length (settled_effect b s (close_effect t s)).lines ≤ 3 * length s.threads + 2
 close-lines b s t = omega (arith, (settled-cost b s s (close_effect t s) 1 (close-costs s t)).lines, tally-length (λ (row : Thread). is_waiting row.stage) s.threads)

@@ -84,5 +84,14 @@ soft_turn-cost b s t (name ∷ names) has =
     costs-line s (work_effect b (find_timer taken name) taken) (turn_line (thread_at s t) 1 (Some Code.Ok)) 2 (costs-from s free (work_effect b (find_timer taken name) taken) 0 2 (thread-costs s t (record (thread_at s t) { retry = None }) refl)
     (costs-from free taken (work_effect b (find_timer taken name) taken) 0 2 (other-costs free taken refl refl refl refl refl refl refl refl refl refl) (work-cost b taken (find_timer taken name) has)))
 
+turn-numbers : (b : PlainBoard) (s : State) (t : ℕ) (works : List (List ℕ)) → HasFew b → (soft_turn_effect b t works s).state.numbers ≤ s.numbers + 2
+turn-numbers b s t [] has = omega arith
+turn-numbers b s t (name ∷ names) has =
+    let taken : State = record (with_thread s t (record (thread_at s t) { retry = None })) { works = names } in
+    omega (arith, (work-cost b taken (find_timer taken name) has).numbers)
+
+pub soft-numbers : (b : PlainBoard) (s : State) (t : ℕ) → HasFew b → (soft_effect b t s).state.numbers ≤ s.numbers + 2
+soft-numbers b s t has = turn-numbers b s t s.works has
+
 pub soft-cost : (b : PlainBoard) (s : State) (t : ℕ) → HasFew b → Costs s (soft_effect b t s) 3
 soft-cost b s t has = soft_turn-cost b s t s.works has
