@@ -38,6 +38,7 @@ pub mod StatementCosts
 pub mod TickCosts
 pub mod CanonLemmas
 pub mod ValidLemmas
+pub mod RunnableLemmas
 pub mod RoomLemmas
 pub mod FireLemmas
 pub mod RowLemmas

@@ -23,7 +23,7 @@ use Rattle.rt_plain.proofs.BoardLemmas.{scripted_last}
 -- ---- lists that grew item by item
 
 -- each item may be put behind those before it
-abbrev Grows : {A : Type 0} → (List A → A → Type 0) → List A → List A → Type 0
+abbrev pub Grows : {A : Type 0} → (List A → A → Type 0) → List A → List A → Type 0
 Grows P front [] = Unit {0}
 Grows P front (x ∷ xs) = P front x × Grows P (front ++ x ∷ []) xs
 
@@ -32,51 +32,79 @@ push P front [] x h p = (subst (λ zs. P zs x) (append-nil front) p, tt)
 push P front (y ∷ ys) x h p = (h.0, push P (front ++ y ∷ []) ys x h.1 (subst (λ zs. P zs x) (sym (append_assoc front (y ∷ []) ys)) p))
 
 -- what a line needs of the board so far, wherever it stands
-abbrev Suits : PlainBoard → BoardLine → Type 0
+abbrev pub Suits : PlainBoard → BoardLine → Type 0
 Suits b l = FitsLine b.levels l × (is_twice b l ≡ false) × (is_full b l ≡ false) × (is_astray b l ≡ false)
 
 suits : (s : SoFar) (l : BoardLine) → Stands s l → Suits s.board l
 suits s l h = (h.fits, h.once, h.room, h.known)
 
--- a thread, and then its statements one by one
-abbrev ScriptGrows : PlainBoard → List ThreadDef → ThreadDef → Type 0
-ScriptGrows b front t = Grows (λ done x. Suits (record b { threads = front ++ record t { script = done } ∷ [] }) (BoardLine.Statement x)) [] t.script
+-- one more of a kind may come behind those that came before it
+abbrev pub SemComes : PlainBoard → List SemDef → SemDef → Type 0
+SemComes b front x = Suits (record b { sems = front }) (BoardLine.Sem x)
 
-abbrev ThreadGrows : PlainBoard → List ThreadDef → ThreadDef → Type 0
-ThreadGrows b front t = Suits (record b { threads = front }) (BoardLine.Thread (line_of_thread t)) × ScriptGrows b front t
+abbrev pub EventComes : PlainBoard → List EventDef → EventDef → Type 0
+EventComes b front x = Suits (record b { events = front }) (BoardLine.Event x)
 
--- what a board has of each kind of objects, threads and arrivals, grew item by item
-abbrev ObjectGrows : PlainBoard → LineKind → Type 0
-ObjectGrows b LineKind.Sem = Grows (λ front x. Suits (record b { sems = front }) (BoardLine.Sem x)) [] b.sems
-ObjectGrows b LineKind.Event = Grows (λ front x. Suits (record b { events = front }) (BoardLine.Event x)) [] b.events
-ObjectGrows b LineKind.Mutex = Grows (λ front x. Suits (record b { mutexes = front }) (BoardLine.Mutex x)) [] b.mutexes
-ObjectGrows b LineKind.Mailbox = Grows (λ front x. Suits (record b { mailboxes = front }) (BoardLine.Mailbox x)) [] b.mailboxes
-ObjectGrows b LineKind.Queue = Grows (λ front x. Suits (record b { queues = front }) (BoardLine.Queue x)) [] b.queues
-ObjectGrows b LineKind.Pool = Grows (λ front x. Suits (record b { pools = front }) (BoardLine.Pool x)) [] b.pools
-ObjectGrows b LineKind.Device = Grows (λ front x. Suits (record b { devices = front }) (BoardLine.Device x)) [] b.devices
-ObjectGrows b LineKind.Timer = Grows (λ front x. Suits (record b { timers = front }) (BoardLine.Timer x)) [] b.timers
-ObjectGrows b LineKind.Thread = Grows (ThreadGrows b) [] b.threads
-ObjectGrows b LineKind.Arrive = Grows (λ front x. Suits (record b { arrivals = front }) (BoardLine.Arrive x)) [] b.arrivals
+abbrev pub MutexComes : PlainBoard → List MutexDef → MutexDef → Type 0
+MutexComes b front x = Suits (record b { mutexes = front }) (BoardLine.Mutex x)
+
+abbrev pub MailboxComes : PlainBoard → List MailboxDef → MailboxDef → Type 0
+MailboxComes b front x = Suits (record b { mailboxes = front }) (BoardLine.Mailbox x)
+
+abbrev pub QueueComes : PlainBoard → List QueueDef → QueueDef → Type 0
+QueueComes b front x = Suits (record b { queues = front }) (BoardLine.Queue x)
+
+abbrev pub PoolComes : PlainBoard → List PoolDef → PoolDef → Type 0
+PoolComes b front x = Suits (record b { pools = front }) (BoardLine.Pool x)
+
+abbrev pub DeviceComes : PlainBoard → List DeviceDef → DeviceDef → Type 0
+DeviceComes b front x = Suits (record b { devices = front }) (BoardLine.Device x)
+
+abbrev pub TimerComes : PlainBoard → List TimerDef → TimerDef → Type 0
+TimerComes b front x = Suits (record b { timers = front }) (BoardLine.Timer x)
+
+abbrev pub ArriveComes : PlainBoard → List Arrival → Arrival → Type 0
+ArriveComes b front x = Suits (record b { arrivals = front }) (BoardLine.Arrive x)
+
+-- a statement at the end of a thread's script, and a thread with its statements one by one
+abbrev pub StatementComes : PlainBoard → List ThreadDef → ThreadDef → List Stmt → Stmt → Type 0
+StatementComes b front t done x = Suits (record b { threads = front ++ record t { script = done } ∷ [] }) (BoardLine.Statement x)
+
+abbrev pub ThreadComes : PlainBoard → List ThreadDef → ThreadDef → Type 0
+ThreadComes b front t = Suits (record b { threads = front }) (BoardLine.Thread (line_of_thread t)) × Grows (StatementComes b front t) [] t.script
+
+-- what a board has of each kind of objects, threads and arrivals came item by item
+abbrev pub ObjectGrows : PlainBoard → LineKind → Type 0
+ObjectGrows b LineKind.Sem = Grows (SemComes b) [] b.sems
+ObjectGrows b LineKind.Event = Grows (EventComes b) [] b.events
+ObjectGrows b LineKind.Mutex = Grows (MutexComes b) [] b.mutexes
+ObjectGrows b LineKind.Mailbox = Grows (MailboxComes b) [] b.mailboxes
+ObjectGrows b LineKind.Queue = Grows (QueueComes b) [] b.queues
+ObjectGrows b LineKind.Pool = Grows (PoolComes b) [] b.pools
+ObjectGrows b LineKind.Device = Grows (DeviceComes b) [] b.devices
+ObjectGrows b LineKind.Timer = Grows (TimerComes b) [] b.timers
+ObjectGrows b LineKind.Thread = Grows (ThreadComes b) [] b.threads
+ObjectGrows b LineKind.Arrive = Grows (ArriveComes b) [] b.arrivals
 ObjectGrows b _ = Unit {0}
 
-abbrev ObjectsGrow : PlainBoard → Type 0
+abbrev pub ObjectsGrow : PlainBoard → Type 0
 ObjectsGrow b = (k : LineKind) → ObjectGrows b k
 
 -- one statement more at the end of the last script
-push_statement : (b : PlainBoard) (front ts : List ThreadDef) (x : Stmt) → Grows (ThreadGrows b) front ts → Suits (record b { threads = front ++ ts }) (BoardLine.Statement x) → Grows (ThreadGrows b) front (scripted ts x)
+push_statement : (b : PlainBoard) (front ts : List ThreadDef) (x : Stmt) → Grows (ThreadComes b) front ts → Suits (record b { threads = front ++ ts }) (BoardLine.Statement x) → Grows (ThreadComes b) front (scripted ts x)
 push_statement b front [] x h p = tt
-push_statement b front (t ∷ []) x h p = ((h.0.0, push (λ done y. Suits (record b { threads = front ++ record t { script = done } ∷ [] }) (BoardLine.Statement y)) [] t.script x h.0.1 p), tt)
+push_statement b front (t ∷ []) x h p = ((h.0.0, push (StatementComes b front t) [] t.script x h.0.1 p), tt)
 push_statement b front (t ∷ u ∷ ts) x h p = (h.0, push_statement b (front ++ t ∷ []) (u ∷ ts) x h.1 (subst (λ zs. Suits (record b { threads = zs }) (BoardLine.Statement x)) (sym (append_assoc front (t ∷ []) (u ∷ ts))) p))
 
 -- ---- what holds of each board that was read
 
 -- a thread of its own has a priority in its range, where it is there
-abbrev OwnFits : ℕ → Option ℕ → Type 0
+abbrev pub OwnFits : ℕ → Option ℕ → Type 0
 OwnFits levels None = Unit {0}
 OwnFits levels (Some p) = FitsLine levels (BoardLine.Shell p)
 
 -- the settings are in their ranges, each by the kind of its line
-abbrev SettingFits : PlainBoard → LineKind → Type 0
+abbrev pub SettingFits : PlainBoard → LineKind → Type 0
 SettingFits b LineKind.Cores = FitsLine 0 (BoardLine.Cores b.cores)
 SettingFits b LineKind.Levels = FitsLine 0 (BoardLine.Levels b.levels)
 SettingFits b LineKind.Tickless = FitsLine 0 (BoardLine.Tickless b.tickless)
@@ -93,7 +121,7 @@ SettingFits b LineKind.Soft = OwnFits b.levels b.soft
 SettingFits b LineKind.Limit = (b.limits.sem ≤ limit_top LimitClass.Sem) × (b.limits.event ≤ limit_top LimitClass.Event) × (b.limits.mutex ≤ limit_top LimitClass.Mutex)
 SettingFits b _ = Unit {0}
 
-abbrev SettingsFit : PlainBoard → Type 0
+abbrev pub SettingsFit : PlainBoard → Type 0
 SettingsFit b = (k : LineKind) → SettingFits b k
 
 -- the settings alone
@@ -260,28 +288,28 @@ settings-after s l h b st k = h k
 
 objects-after : (s : SoFar) (l : BoardLine) → ObjectsGrow s.board → IsBare s → Stands s l → ObjectsGrow (added s.board l)
 unfolding row
-objects-after s (BoardLine.Sem x) h b st LineKind.Sem = push (λ front y. Suits (record s.board { sems = front }) (BoardLine.Sem y)) [] s.board.sems x (h LineKind.Sem) (suits s (BoardLine.Sem x) st)
+objects-after s (BoardLine.Sem x) h b st LineKind.Sem = push (SemComes s.board) [] s.board.sems x (h LineKind.Sem) (suits s (BoardLine.Sem x) st)
 objects-after s (BoardLine.Sem x) h b st k = h k
-objects-after s (BoardLine.Event x) h b st LineKind.Event = push (λ front y. Suits (record s.board { events = front }) (BoardLine.Event y)) [] s.board.events x (h LineKind.Event) (suits s (BoardLine.Event x) st)
+objects-after s (BoardLine.Event x) h b st LineKind.Event = push (EventComes s.board) [] s.board.events x (h LineKind.Event) (suits s (BoardLine.Event x) st)
 objects-after s (BoardLine.Event x) h b st k = h k
-objects-after s (BoardLine.Mutex x) h b st LineKind.Mutex = push (λ front y. Suits (record s.board { mutexes = front }) (BoardLine.Mutex y)) [] s.board.mutexes x (h LineKind.Mutex) (suits s (BoardLine.Mutex x) st)
+objects-after s (BoardLine.Mutex x) h b st LineKind.Mutex = push (MutexComes s.board) [] s.board.mutexes x (h LineKind.Mutex) (suits s (BoardLine.Mutex x) st)
 objects-after s (BoardLine.Mutex x) h b st k = h k
-objects-after s (BoardLine.Mailbox x) h b st LineKind.Mailbox = push (λ front y. Suits (record s.board { mailboxes = front }) (BoardLine.Mailbox y)) [] s.board.mailboxes x (h LineKind.Mailbox) (suits s (BoardLine.Mailbox x) st)
+objects-after s (BoardLine.Mailbox x) h b st LineKind.Mailbox = push (MailboxComes s.board) [] s.board.mailboxes x (h LineKind.Mailbox) (suits s (BoardLine.Mailbox x) st)
 objects-after s (BoardLine.Mailbox x) h b st k = h k
-objects-after s (BoardLine.Queue x) h b st LineKind.Queue = push (λ front y. Suits (record s.board { queues = front }) (BoardLine.Queue y)) [] s.board.queues x (h LineKind.Queue) (suits s (BoardLine.Queue x) st)
+objects-after s (BoardLine.Queue x) h b st LineKind.Queue = push (QueueComes s.board) [] s.board.queues x (h LineKind.Queue) (suits s (BoardLine.Queue x) st)
 objects-after s (BoardLine.Queue x) h b st k = h k
-objects-after s (BoardLine.Pool x) h b st LineKind.Pool = push (λ front y. Suits (record s.board { pools = front }) (BoardLine.Pool y)) [] s.board.pools x (h LineKind.Pool) (suits s (BoardLine.Pool x) st)
+objects-after s (BoardLine.Pool x) h b st LineKind.Pool = push (PoolComes s.board) [] s.board.pools x (h LineKind.Pool) (suits s (BoardLine.Pool x) st)
 objects-after s (BoardLine.Pool x) h b st k = h k
-objects-after s (BoardLine.Device x) h b st LineKind.Device = push (λ front y. Suits (record s.board { devices = front }) (BoardLine.Device y)) [] s.board.devices x (h LineKind.Device) (suits s (BoardLine.Device x) st)
-objects-after s (BoardLine.Device x) h b st LineKind.Arrive = let le = rank_grows s (BoardLine.Device x) st in nothing (λ front y. Suits (record s.board { devices = s.board.devices ++ x ∷ []; arrivals = front }) (BoardLine.Arrive y)) s.board.arrivals (b.arrivals (omega arith))
+objects-after s (BoardLine.Device x) h b st LineKind.Device = push (DeviceComes s.board) [] s.board.devices x (h LineKind.Device) (suits s (BoardLine.Device x) st)
+objects-after s (BoardLine.Device x) h b st LineKind.Arrive = let le = rank_grows s (BoardLine.Device x) st in nothing (ArriveComes (added s.board (BoardLine.Device x))) s.board.arrivals (b.arrivals (omega arith))
 objects-after s (BoardLine.Device x) h b st k = h k
-objects-after s (BoardLine.Timer x) h b st LineKind.Timer = push (λ front y. Suits (record s.board { timers = front }) (BoardLine.Timer y)) [] s.board.timers x (h LineKind.Timer) (suits s (BoardLine.Timer x) st)
+objects-after s (BoardLine.Timer x) h b st LineKind.Timer = push (TimerComes s.board) [] s.board.timers x (h LineKind.Timer) (suits s (BoardLine.Timer x) st)
 objects-after s (BoardLine.Timer x) h b st k = h k
-objects-after s (BoardLine.Thread x) h b st LineKind.Thread = push (ThreadGrows s.board) [] s.board.threads (unscripted x) (h LineKind.Thread) (suits s (BoardLine.Thread x) st, tt)
+objects-after s (BoardLine.Thread x) h b st LineKind.Thread = push (ThreadComes s.board) [] s.board.threads (unscripted x) (h LineKind.Thread) (suits s (BoardLine.Thread x) st, tt)
 objects-after s (BoardLine.Thread x) h b st k = h k
 objects-after s (BoardLine.Statement x) h b st LineKind.Thread = push_statement s.board [] s.board.threads x (h LineKind.Thread) (suits s (BoardLine.Statement x) st)
 objects-after s (BoardLine.Statement x) h b st k = h k
-objects-after s (BoardLine.Arrive x) h b st LineKind.Arrive = push (λ front y. Suits (record s.board { arrivals = front }) (BoardLine.Arrive y)) [] s.board.arrivals x (h LineKind.Arrive) (suits s (BoardLine.Arrive x) st)
+objects-after s (BoardLine.Arrive x) h b st LineKind.Arrive = push (ArriveComes s.board) [] s.board.arrivals x (h LineKind.Arrive) (suits s (BoardLine.Arrive x) st)
 objects-after s (BoardLine.Arrive x) h b st k = h k
 objects-after s l h b st k = let le = rank_grows s l st in none_grow (added s.board l) (ap (λ (c : PlainBoard). added c l) (b.objects (omega arith))) k
 
@@ -423,11 +451,8 @@ class_leads {A} k say put big is one front (x ∷ xs) h =
     subst (λ (zs : List A). Leads r r (map say (x ∷ xs)) (put front) (put zs)) (append_assoc front (x ∷ []) xs)
     (both_lead (subst (Leads r r (say x ∷ []) (put front)) (one front x) first) (omega arith) others)
 
-abbrev ScriptSuits : PlainBoard → List ThreadDef → ThreadDef → List Stmt → Stmt → Type 0
-ScriptSuits b front t done x = Suits (record b { threads = front ++ record t { script = done } ∷ [] }) (BoardLine.Statement x)
-
 -- behind a thread or a statement of it
-script_stands : (b : PlainBoard) (front : List ThreadDef) (t : ThreadDef) (s : SoFar) (done xs : List Stmt) → s.board ≡ record b { threads = front ++ record t { script = done } ∷ [] } → s.rank ≡ rank_of LineKind.Thread → Grows (ScriptSuits b front t) done xs → AllStand s (map (λ x. BoardLine.Statement x) xs) × At (after_all s (map (λ x. BoardLine.Statement x) xs)) (record b { threads = front ++ record t { script = done ++ xs } ∷ [] }) (rank_of LineKind.Thread)
+script_stands : (b : PlainBoard) (front : List ThreadDef) (t : ThreadDef) (s : SoFar) (done xs : List Stmt) → s.board ≡ record b { threads = front ++ record t { script = done } ∷ [] } → s.rank ≡ rank_of LineKind.Thread → Grows (StatementComes b front t) done xs → AllStand s (map (λ x. BoardLine.Statement x) xs) × At (after_all s (map (λ x. BoardLine.Statement x) xs)) (record b { threads = front ++ record t { script = done ++ xs } ∷ [] }) (rank_of LineKind.Thread)
 unfolding row
 script_stands b front t s done [] e r h = (tt, record { board = e ∙ ap (λ (ys : List Stmt). record b { threads = front ++ record t { script = ys } ∷ [] }) (sym (append-nil done)); begun = omega arith; within = omega arith; unlimited = λ lt. absurd (omega arith) })
 script_stands b front t s done (x ∷ xs) e r h =
@@ -439,7 +464,7 @@ script_stands b front t s done (x ∷ xs) e r h =
       subst (λ (ys : List Stmt). At (after_all u (map (λ x. BoardLine.Statement x) xs)) (record b { threads = front ++ record t { script = ys } ∷ [] }) (rank_of LineKind.Thread)) (append_assoc done (x ∷ []) xs) others.1,
     )
 
-thread_leads : (b : PlainBoard) (front : List ThreadDef) (t : ThreadDef) → ThreadGrows b front t → Leads (rank_of LineKind.Thread) (rank_of LineKind.Thread) (thread_lines t) (record b { threads = front }) (record b { threads = front ++ t ∷ [] })
+thread_leads : (b : PlainBoard) (front : List ThreadDef) (t : ThreadDef) → ThreadComes b front t → Leads (rank_of LineKind.Thread) (rank_of LineKind.Thread) (thread_lines t) (record b { threads = front }) (record b { threads = front ++ t ∷ [] })
 unfolding row
 thread_leads b front t h = record { stand = λ s at. ((first.stand s at).0, (script s at).0); there = λ s at. (script s at).1 } where
   line : BoardLine
@@ -451,7 +476,7 @@ thread_leads b front t h = record { stand = λ s at. ((first.stand s at).0, (scr
   script : (s : SoFar) → At s (record b { threads = front }) (rank_of LineKind.Thread) → AllStand (after s line) (map (λ x. BoardLine.Statement x) t.script) × At (after_all s (thread_lines t)) (record b { threads = front ++ t ∷ [] }) (rank_of LineKind.Thread)
   script s at = script_stands b front t (after s line) [] t.script (first.there s at).board refl h.1
 
-threads_lead : (b : PlainBoard) (front ts : List ThreadDef) → Grows (ThreadGrows b) front ts → Leads (rank_of LineKind.Thread) (rank_of LineKind.Thread) (flat_map thread_lines ts) (record b { threads = front }) (record b { threads = front ++ ts })
+threads_lead : (b : PlainBoard) (front ts : List ThreadDef) → Grows (ThreadComes b) front ts → Leads (rank_of LineKind.Thread) (rank_of LineKind.Thread) (flat_map thread_lines ts) (record b { threads = front }) (record b { threads = front ++ ts })
 threads_lead b front [] h = no_lines (rank_of LineKind.Thread) (rank_of LineKind.Thread) (record b { threads = front }) _ (omega arith) (ap (λ (ts : List ThreadDef). record b { threads = ts }) (sym (append-nil front)))
 threads_lead b front (t ∷ ts) h =
     let both = both_lead (thread_leads b front t h.0) (omega arith) (threads_lead b (front ++ t ∷ []) ts h.1) in
@@ -521,3 +546,7 @@ read_is_valid bytes b h =
 pub canonical_is_board : (b : PlainBoard) → IsValid b → IsBoard (canonical_text b) b
 unfolding IsValid
 canonical_is_board b h = h
+
+-- what holds of a valid board's settings, and how its lists came
+pub valid_grows : (b : PlainBoard) → IsValid b → SettingsFit b × ObjectsGrow b
+valid_grows b h = fine_lines start (lines_of (canonical_text b)) b fine-start (canonical_is_board b h)

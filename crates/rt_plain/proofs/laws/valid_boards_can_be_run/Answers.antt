@@ -1,0 +1,5 @@
+use Rattle.rt_plain.proofs.laws.valid_boards_can_be_run.Goals as goal
+use Rattle.rt_plain.proofs.RunnableLemmas.{valid_proper, valid_sized, valid_driveable, valid_cores, valid_begins}
+
+pub returns : goal.returns
+returns c = record { proper = valid_proper; sized = valid_sized; driveable = valid_driveable; cores = valid_cores; begins = valid_begins }
