@@ -25,22 +25,23 @@ use Rattle.rt_plain.specs.Canon.{IsValid}
 use Rattle.rt_plain.specs.Runs.{is_event_of, thread_count, room, is_over}
 use Rattle.rt_plain.specs.Schedules.{listed_of, IsDriveable}
 use Rattle.rt_plain.specs.Sound.{is_timeout, is_timed, is_timed_action, IsProper, IsSized}
+use Rattle.rt_plain.proofs.TallyLemmas.{all-weaker}
 use Rattle.rt_plain.proofs.TestLemmas.{or-left, or-right}
 use Rattle.rt_plain.proofs.ValidLemmas.{Grows, StatementComes, SemComes, EventComes, MutexComes, MailboxComes, QueueComes, PoolComes, DeviceComes, TimerComes, ThreadComes, ArriveComes, ObjectsGrow, valid_grows}
 
 -- ---- lists that grew item by item
 
-grows-each : {A : Type 0} (P : List A → A → Type 0) (Q : A → Type 0) → ((front : List A) (x : A) → P front x → Q x) → (front xs : List A) → Grows P front xs → AllByRecursion Q xs
+pub grows-each : {A : Type 0} (P : List A → A → Type 0) (Q : A → Type 0) → ((front : List A) (x : A) → P front x → Q x) → (front xs : List A) → Grows P front xs → AllByRecursion Q xs
 grows-each P Q says front [] h = tt
 grows-each P Q says front (x ∷ xs) h = (says front x h.0, grows-each P Q says (front ++ x ∷ []) xs h.1)
 
-grows-few : {A : Type 0} (P : List A → A → Type 0) (n : ℕ) → ((front : List A) (x : A) → P front x → leb n (length front) ≡ false) → (front xs : List A) → length front ≤ n → Grows P front xs → length (front ++ xs) ≤ n
+pub grows-few : {A : Type 0} (P : List A → A → Type 0) (n : ℕ) → ((front : List A) (x : A) → P front x → leb n (length front) ≡ false) → (front xs : List A) → length front ≤ n → Grows P front xs → length (front ++ xs) ≤ n
 grows-few P n spare front [] le h = rw (append-nil front) le
 grows-few P n spare front (x ∷ xs) le h =
     let lt = leb-false n (length front) (spare front x h.0) in
     subst (λ ys. length ys ≤ n) (append_assoc front (x ∷ []) xs) (grows-few P n spare (front ++ x ∷ []) xs (omega (arith, lt, length-append front (x ∷ []))) h.1)
 
-grows-pairs : {A : Type 0} (P : List A → A → Type 0) (R : A → A → Type 0) → ((front : List A) (x : A) → P front x → All (λ o. R o x) front) → (front xs : List A) → AllPairs R front → Grows P front xs → AllPairs R (front ++ xs)
+pub grows-pairs : {A : Type 0} (P : List A → A → Type 0) (R : A → A → Type 0) → ((front : List A) (x : A) → P front x → All (λ o. R o x) front) → (front xs : List A) → AllPairs R front → Grows P front xs → AllPairs R (front ++ xs)
 grows-pairs P R says front [] before h = subst (AllPairs R) (sym (append-nil front)) before
 grows-pairs P R says front (x ∷ xs) before h = subst (AllPairs R) (append_assoc front (x ∷ []) xs) (grows-pairs P R says (front ++ x ∷ []) xs (all_pairs_push R front x before (λ k d lt. says front x h.0 k d lt)) h.1)
 
@@ -48,10 +49,6 @@ grows-pairs P R says front (x ∷ xs) before h = subst (AllPairs R) (append_asso
 none-passing : {A : Type 0} (p : A → Bool) (xs : List A) → list_any p xs ≡ false → AllByRecursion (λ x. p x ≡ false) xs
 none-passing p [] none = tt
 none-passing p (x ∷ xs) none = (or-left (p x) (list_any p xs) none, none-passing p xs (or-right (p x) (list_any p xs) none))
-
-all-more : {A : Type 0} (P Q : A → Type 0) → ((x : A) → P x → Q x) → (xs : List A) → AllByRecursion P xs → AllByRecursion Q xs
-all-more P Q says [] all = tt
-all-more P Q says (x ∷ xs) all = (says x all.0, all-more P Q says xs all.1)
 
 -- ---- classes
 
@@ -65,7 +62,7 @@ apart one other is same = let there = (bytes_eq-Decides one other).1 same in abs
 stock_of : {A : Type 0} (P : List A → A → Type 0) (name : A → List ℕ) (n : ℕ) → ((front : List A) (x : A) → P front x → list_any (λ o. bytes_eq (name o) (name x)) front ≡ false) → ((front : List A) (x : A) → P front x → leb n (length front) ≡ false) → (xs : List A) → Grows P [] xs → IsStock name n xs
 stock_of {A} P name n once spare xs h = (grows-few P n spare [] xs (omega arith) h, grows-pairs P (λ one other. name one ≢ name other) others [] xs (λ i j d less inside. absurd (omega (arith, less, inside))) h) where
   others : (front : List A) (x : A) → P front x → All (λ o. name o ≢ name x) front
-  others front x p = All-from_recursion (λ o. name o ≢ name x) front (all-more (λ o. bytes_eq (name o) (name x) ≡ false) (λ o. name o ≢ name x) (λ o is. apart (name o) (name x) is) front (none-passing (λ o. bytes_eq (name o) (name x)) front (once front x p)))
+  others front x p = All-from_recursion (λ o. name o ≢ name x) front (all-weaker (λ o. bytes_eq (name o) (name x) ≡ false) (λ o. name o ≢ name x) front (λ o is. apart (name o) (name x) is) (none-passing (λ o. bytes_eq (name o) (name x)) front (once front x p)))
 
 -- each class of a valid board has room, and names of its own
 pub record IsStocked (b : PlainBoard) : Type 0 where
@@ -180,7 +177,7 @@ unlike b one other is now same = absurd cc (is, eq-eqb (arrival_moment b one) (a
 once : (b : PlainBoard) (front : List Arrival) (a : Arrival) → ArriveComes b front a → All (λ o. IsOther b o a) front
 once b front a h =
     let test = λ (o : Arrival). eqb (arrival_moment b o) (arrival_moment b a) && bytes_eq o.device a.device in
-    All-from_recursion (λ o. IsOther b o a) front (all-more (λ o. test o ≡ false) (λ o. IsOther b o a) (λ o is. unlike b o a is) front (none-passing test front h.1))
+    All-from_recursion (λ o. IsOther b o a) front (all-weaker (λ o. test o ≡ false) (λ o. IsOther b o a) front (λ o is. unlike b o a is) (none-passing test front h.1))
 
 pub valid_sized : (b : PlainBoard) → IsValid b → IsSized b
 valid_sized b is =
@@ -212,7 +209,7 @@ event_of b Event.Tick is = refl
 listed : (b : PlainBoard) (schedule : Schedule) → is_schedule_beyond b.cores schedule ≡ false → AllByRecursion (λ event. IsTrue (is_event_of b event)) (listed_of schedule)
 listed b Schedule.Round is = tt
 listed b (Schedule.Seed seed) is = tt
-listed b (Schedule.Order events) is = all-more (λ event. is_event_beyond b.cores event ≡ false) (λ event. IsTrue (is_event_of b event)) (event_of b) events (none-passing (is_event_beyond b.cores) events is)
+listed b (Schedule.Order events) is = all-weaker (λ event. is_event_beyond b.cores event ≡ false) (λ event. IsTrue (is_event_of b event)) events (event_of b) (none-passing (is_event_beyond b.cores) events is)
 
 pub valid_driveable : (b : PlainBoard) → IsValid b → IsDriveable b
 valid_driveable b is = record {

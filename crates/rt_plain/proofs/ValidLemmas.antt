@@ -5,7 +5,16 @@ use Rattle.std.proofs.lemmas.List.Concat.{flat_map-cons}
 use Rattle.std.proofs.lemmas.List.{append-nil}
 use Rattle.std.proofs.lemmas.Bool.{eqb-true, eqb-false, ltb-false, leb-false, ne_eqb, and_cases, not-false, lt-leb, le-ltb, and_right}
 use Rattle.rt_plain.specs.declared.board.Schedule.{Schedule}
+use Rattle.rt_plain.specs.declared.board.SemDef.{SemDef}
+use Rattle.rt_plain.specs.declared.board.EventDef.{EventDef}
+use Rattle.rt_plain.specs.declared.board.MutexDef.{MutexDef}
+use Rattle.rt_plain.specs.declared.board.MailboxDef.{MailboxDef}
+use Rattle.rt_plain.specs.declared.board.QueueDef.{QueueDef}
+use Rattle.rt_plain.specs.declared.board.PoolDef.{PoolDef}
+use Rattle.rt_plain.specs.declared.board.DeviceDef.{DeviceDef}
+use Rattle.rt_plain.specs.declared.board.TimerDef.{TimerDef}
 use Rattle.rt_plain.specs.declared.board.ThreadDef.{ThreadDef}
+use Rattle.rt_plain.specs.declared.board.Arrival.{Arrival}
 use Rattle.rt_plain.specs.declared.board_line.BoardLine.{BoardLine}
 use Rattle.rt_plain.specs.declared.board_line.LimitClass.{LimitClass}
 use Rattle.rt_plain.specs.declared.kind.LineKind.{LineKind}
