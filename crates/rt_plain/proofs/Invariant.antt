@@ -1,11 +1,10 @@
 -- What each action keeps, and how the small changes of a state keep it.
-use Rattle.std.proofs.Common.{◌≡◌, ◌≢◌, ◌⊎◌, inl, inr, ◌+◌, ◌≤◌, ◌<◌, ◌∷◌, [], ◌++◌, ℕ, List, Option, Some, None, Bool, true, false, not, length, eqb, refl, sym, ap, ◌∙◌, subst, arith, eq-eqb, eqb-true, ne_eqb, slice_index_or, slice_set, filter, map, bytes_eq, if◌then◌else◌, ◌||◌, Contains}
+use Rattle.std.proofs.Common.{◌≡◌, ◌≢◌, ◌⊎◌, inl, inr, ◌+◌, ◌≤◌, ◌<◌, ◌∷◌, [], ◌++◌, ℕ, List, Option, Some, None, Bool, true, false, not, length, eqb, refl, sym, ap, ◌∙◌, subst, arith, eq-eqb, eqb-true, ne_eqb, slice_index_or, slice_set, filter, map, bytes_eq, if◌then◌else◌, ◌||◌}
 use Rattle.std.specs.List.{AllByRecursion, list_any}
 use Rattle.std.proofs.lemmas.Slice.Eq.{bytes_eq-Decides}
 use Rattle.std.proofs.lemmas.Bool.{eqb-false}
 use Rattle.std.proofs.lemmas.List.{length-map}
 use Rattle.rt_base.specs.declared.codes.Halt.{Halt}
-use Rattle.rt_plain.specs.declared.board.TimerDef.{TimerDef}
 use Rattle.rt_plain.specs.PlainBoard.{PlainBoard}
 use Rattle.rt_plain.specs.State.{State, Stage, Active, Waiting, Closed, Suspended, Awaited, InCall, AtConsole, AtWorks, Retry, Thread, Timer, Nest, Alarm, OfThread, OfTimer, ArmedRow, no_thread, thread_at, with_thread, running_on, is_number, is_closed, is_nest_of}
 use Rattle.rt_plain.specs.Effects.{with_ready_last, with_ready_first, without_ready, without_core, is_alarm, without_alarm, with_alarm, waiting_state, active_state}
@@ -15,7 +14,7 @@ use Rattle.rt_plain.specs.Owners.{nest_without, withdrawn_state}
 use Rattle.rt_plain.specs.Calls.{is_moved, reordered_state}
 use Rattle.rt_plain.specs.Steps.{with_running, without_mark, preempted_state}
 use Rattle.rt_plain.specs.Runs.{thread_count}
-use Rattle.rt_plain.specs.Sound.{is_active, is_waiting, is_timed_call, is_timed_action}
+use Rattle.rt_plain.specs.Sound.{is_active, is_waiting, is_timed_call, is_timed_action, IsBoardTimer}
 use Rattle.rt_plain.proofs.TallyLemmas.{one_if, tally, tally-last, tally-split, tally-filter, tally-without_same, tally-without_other, tally-left_same, tally-left_other, tally-set, tally-at, tally-twice, all-weaker, all-filter, all-passing, all-append, all-at, all-set, same-set, other-set, here-set, past-end, length-set_at, map-at, le_or_lt}
 use Rattle.rt_plain.proofs.TestLemmas.{some-is, clash}
 
@@ -69,10 +68,6 @@ IsFineRetry now (Some retry) = (is_fine_awaited retry.what ≡ true) × IsNear n
 -- and a thread that isn't closed stands at a statement of its script, or behind it
 abbrev pub IsFineThread : PlainBoard → ℕ → Thread → Type 0
 IsFineThread b now row = (is_fine_stage row.stage ≡ true) × IsFineRetry now row.retry × (is_closed row.stage ≡ false → row.next ≤ length (script_of b row.name) + 2)
-
--- a timer is one of the board's, but for its time
-abbrev pub IsBoardTimer : PlainBoard → Timer → Type 0
-IsBoardTimer b timer = (def : TimerDef) × Contains b.timers def × (timer.name ≡ def.name) × (timer.kind ≡ def.kind) × (timer.call ≡ def.call)
 
 abbrev pub IsFineTimer : PlainBoard → Timer → Type 0
 IsFineTimer b timer = (1 ≤ timer.time) × (timer.time ≤ 2147483647) × (is_timed_action timer.call ≡ true) × IsBoardTimer b timer

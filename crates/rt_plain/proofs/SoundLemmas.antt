@@ -1,16 +1,19 @@
 -- Every state that a run reaches is sound.
-use Rattle.std.proofs.Common.{◌≡◌, ◌+◌, ◌≤◌, ◌<◌, [], ℕ, List, None, Bool, true, false, length, eqb, refl, ◌∙◌, subst, arith, eq-eqb, if◌then◌else◌}
-use Rattle.std.proofs.lemmas.List.Elements.{All-from_recursion}
+use Rattle.std.proofs.Common.{◌≡◌, ◌+◌, ◌≤◌, ◌<◌, [], ℕ, List, None, Bool, true, false, length, eqb, refl, ◌∙◌, subst, arith, eq-eqb, if◌then◌else◌, sym, Option, All, IsTrue}
+use Rattle.std.proofs.lemmas.List.Elements.{All-from_recursion, All-contains, All-weaker}
 use Rattle.rt_plain.specs.declared.entry.Entry.{Entry}
+use Rattle.rt_plain.specs.declared.stmt.Stmt.{Stmt}
+use Rattle.rt_plain.specs.declared.board.TimerDef.{TimerDef}
+use Rattle.rt_plain.specs.TimerKinds.{is_timer_action}
 use Rattle.rt_plain.specs.Effects.{is_alarm}
 use Rattle.rt_plain.specs.PlainBoard.{PlainBoard}
-use Rattle.rt_plain.specs.State.{State, Alarm, OfThread, OfTimer, thread_at, is_number, ArmedRow}
+use Rattle.rt_plain.specs.State.{State, Alarm, OfThread, OfTimer, thread_at, is_number, ArmedRow, Timer}
 use Rattle.rt_plain.specs.Opening.{open_state}
 use Rattle.rt_plain.specs.Runs.{IsMade, IsRun, IsRunIn, is_over, is_over_in}
-use Rattle.rt_plain.specs.Sound.{is_active, place_count, IsProper, IsSound, IsWaitedFor}
+use Rattle.rt_plain.specs.Sound.{is_active, place_count, IsProper, IsSound, IsWaitedFor, IsBoardTimer}
 use Rattle.rt_plain.proofs.RunLemmas.{IsRun-keeps}
 use Rattle.rt_plain.proofs.TallyLemmas.{one_if, tally-count, all-weaker, all-both}
-use Rattle.rt_plain.proofs.Invariant.{places, IsRowKept, IsRowBounded, IsWaited, nest-core, fine-at}
+use Rattle.rt_plain.proofs.Invariant.{places, IsRowKept, IsRowBounded, IsWaited, IsFineTimer, nest-core, fine-at}
 use Rattle.rt_plain.proofs.TickLemmas.{still}
 use Rattle.rt_plain.proofs.StepLemmas.{KeptAt, KeptDid, event-kept}
 use Rattle.rt_plain.proofs.OpenLemmas.{opened-kept}
@@ -60,6 +63,25 @@ kept-sound b s proper kept = record {
 
 pub reached-sound : (b : PlainBoard) (journal : List Entry) (s : State) → IsProper b → IsRun b (open_state b) journal s → IsSound b s
 reached-sound b journal s timed run = kept-sound b s timed (reached-kept b journal s timed run)
+
+-- armed rows are near, and their start numbers were given
+pub reached-near : (b : PlainBoard) (journal : List Entry) (s : State) → IsProper b → IsRun b (open_state b) journal s → All (λ row. row.due ≤ s.moment + 2147483647) s.armed
+reached-near b journal s timed run = let kept : KeptAt b s = reached-kept b journal s timed run in
+    All-from_recursion (λ (row : ArmedRow Alarm). row.due ≤ s.moment + 2147483647) s.armed (all-weaker (IsRowBounded kept.0 s.numbers) (λ (row : ArmedRow Alarm). row.due ≤ s.moment + 2147483647) s.armed (λ row is. omega (arith, is.0, kept.1.moment_is)) kept.1.bounded)
+
+pub reached-numbered : (b : PlainBoard) (journal : List Entry) (s : State) → IsProper b → IsRun b (open_state b) journal s → All (λ row. row.number < s.numbers) s.armed
+reached-numbered b journal s timed run = let kept : KeptAt b s = reached-kept b journal s timed run in
+    All-from_recursion (λ (row : ArmedRow Alarm). row.number < s.numbers) s.armed (all-weaker (IsRowBounded kept.0 s.numbers) (λ (row : ArmedRow Alarm). row.number < s.numbers) s.armed (λ row is. is.1) kept.1.bounded)
+
+-- timers are the board's
+pub reached-timers : (b : PlainBoard) (journal : List Entry) (s : State) → IsProper b → IsRun b (open_state b) journal s → All (IsBoardTimer b) s.timers
+reached-timers b journal s timed run = All-from_recursion (IsBoardTimer b) s.timers (all-weaker (IsFineTimer b) (IsBoardTimer b) s.timers (λ timer is. is.3) (reached-kept b journal s timed run).1.timers_fine)
+
+timer-may : (b : PlainBoard) (timer : Timer) → All (λ def. IsTrue (is_timer_action def.call)) b.timers → IsBoardTimer b timer → IsTrue (is_timer_action timer.call)
+timer-may b timer may is = subst (λ (call : Option Stmt). IsTrue (is_timer_action call)) (sym is.4) (All-contains (λ (def : TimerDef). IsTrue (is_timer_action def.call)) b.timers is.0 may is.1)
+
+pub reached-may : (b : PlainBoard) (journal : List Entry) (s : State) → IsProper b → IsRun b (open_state b) journal s → All (λ def. IsTrue (is_timer_action def.call)) b.timers → All (λ timer. IsTrue (is_timer_action timer.call)) s.timers
+reached-may b journal s timed run may = All-weaker (IsBoardTimer b) (λ (timer : Timer). IsTrue (is_timer_action timer.call)) (λ timer is. timer-may b timer may is) s.timers (reached-timers b journal s timed run)
 
 -- a limit at the board's number of entries stops every run
 limited : (over : List Entry → Bool) (b : PlainBoard) → IsProper b → 1 ≤ b.cores → ((journal : List Entry) → length journal ≡ b.entries → over journal ≡ true) → IsLimited over b
