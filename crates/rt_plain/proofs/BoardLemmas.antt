@@ -80,20 +80,26 @@ levels-kept s (BoardLine.Levels n) low high h =
 levels-kept s (BoardLine.Statement t) low high h = (low, high)
 levels-kept s _ low high h = (low, high)
 
+clock-kept : (s : SoFar) (l : BoardLine) → 1 ≤ s.board.lp_h → Stands s l → 1 ≤ (after s l).board.lp_h
+clock-kept s (BoardLine.LpClock h q) le st = st.fits.0.0
+clock-kept s (BoardLine.Statement t) le st = le
+clock-kept s _ le st = le
+
 -- what holds after any lines
 pub record IsSound (s : SoFar) : Type 0 where
   pub low : 2 ≤ s.board.levels
   pub high : s.board.levels ≤ 256
   pub cores : s.board.cores ≤ 8
+  pub clock : 1 ≤ s.board.lp_h
 
 pub sound-start : IsSound start
-sound-start = record { low = omega arith; high = omega arith; cores = omega arith }
+sound-start = record { low = omega arith; high = omega arith; cores = omega arith; clock = omega arith }
 
 pub sound-after : (s : SoFar) (bytes : List ℕ) (l : BoardLine) → IsSound s → judged s bytes ≡ Ok l → IsSound (after s l)
 sound-after s bytes l h e =
     let stands = (line-takes s bytes l h.cores e).stands in
     let k = levels-kept s l h.low h.high stands in
-    record { low = k.0; high = k.1; cores = cores-kept s l h.cores stands }
+    record { low = k.0; high = k.1; cores = cores-kept s l h.cores stands; clock = clock-kept s l h.clock stands }
 
 pub outcome_skipped : (s : SoFar) (n : ℕ) (bytes : List ℕ) (rest : List (List ℕ)) → IsTrue (is_skipped bytes) → outcome s n (bytes ∷ rest) ≡ outcome s (n + 1) rest
 outcome_skipped s n bytes rest h = when (is_skipped bytes) (outcome s (n + 1) rest) (next s n rest (judged s bytes)) h

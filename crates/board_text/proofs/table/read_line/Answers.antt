@@ -135,7 +135,8 @@ pub returns-in-Err-all5 : goal.returns-in-Err-all5
 returns-in-Err-all5 c = board-line-read c.args.board_levels (nows c.args.words.now) c.args.kind LineKind.Thread _ c.in-Thread.is (c.in-Err-all5.ensures ∙ both-same c.name-in-Thread.ensures (both-same (c.prio-in-Thread.ensures ∙ ap (λ (n : ℕ). number_in 0 n (word_at (nows c.args.words.now) 2)) c.below_idle-in-Thread.ensures) (both-same c.byte-in-Thread.ensures (both-same c.core.ensures (both-same c.started.ensures refl)))))
 
 pub returns-in-Ok-all3-3 : goal.returns-in-Ok-all3-3
-returns-in-Ok-all3-3 c = board-line-read c.args.board_levels (nows c.args.words.now) c.args.kind LineKind.Arrive _ c.in-Arrive.is (c.in-Ok-all3-3.ensures ∙ both-same c.number-in-Arrive.ensures (both-same c.name-in-Arrive.ensures (both-same c.text.ensures refl)))
+unfolding line_in
+returns-in-Ok-all3-3 c = rw c.in-Arrive.is (search rules)
 
 pub returns-in-Err-all3-3 : goal.returns-in-Err-all3-3
 returns-in-Err-all3-3 c = board-line-read c.args.board_levels (nows c.args.words.now) c.args.kind LineKind.Arrive _ c.in-Arrive.is (c.in-Err-all3-3.ensures ∙ both-same c.number-in-Arrive.ensures (both-same c.name-in-Arrive.ensures (both-same c.text.ensures refl)))
