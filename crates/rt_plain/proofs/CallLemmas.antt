@@ -5,7 +5,7 @@ use Rattle.rt_plain.specs.declared.stmt.Call.{Call}
 use Rattle.rt_plain.specs.State.{State, Stage, Initial, Active, Waiting, Suspended, Closed, Awaited, InCall, Nest, thread_at, find_thread, running_on, is_initial, is_closed, is_among, is_nest_of}
 use Rattle.rt_plain.specs.Outcome.{By, ByThread, ByTimer, Attempt, First, Again, Outcome, refusal, with_value, with_text, may_not_wait, wait_outcome, first_wait_outcome, is_past, repeated_wait_outcome, wait_or_refusal, missing_outcome, found_outcome}
 use Rattle.rt_plain.specs.ThreadCalls.{delay, yield, startup, suspend, may_suspend, resume, resume_outcome, kill, set_prio, lock, lock_outcome, nest_at, unlock, unlock_outcome, with_locks, sched_lock, sched_unlock}
-use Rattle.rt_plain.specs.Sound.{is_active, is_waiting, is_span, is_timeout, is_timed_call}
+use Rattle.rt_plain.specs.Sound.{is_active, is_waiting, is_span, is_timeout}
 use Rattle.rt_plain.proofs.TallyLemmas.{tally, tally-among}
 use Rattle.rt_plain.proofs.Invariant.{Frame, Kept, parts, is_fine_awaited, IsNear, IsAhead, is_scriptless, IsNestRun, IsOffNest, fine-at, thread-kept, running-active, placed-active, off-nest, off-core, active-kept, waiting-kept, suspended-kept}
 use Rattle.rt_plain.proofs.WakeLemmas.{wake-kept, close-kept}
@@ -54,7 +54,7 @@ wait-kept f s t core what due runs fine ahead kept =
 span-ahead : (f : Frame) (s : State) (ticks : ℕ) → 1 ≤ ticks → is_span ticks ≡ true → Kept f s → IsAhead f.now (Some (s.moment + ticks))
 span-ahead f s ticks some short kept d is = let same : s.moment + ticks ≡ d = some-is (s.moment + ticks) d is in (omega (arith, same, some, kept.moment_is), omega (arith, same, leb-true ticks 2147483647 short, kept.moment_is))
 
-first_wait-kept : (f : Frame) (s : State) (t core : ℕ) (call : Call) (timeout : Option ℕ) (code : Code) → running_on s core ≡ Some t → is_timed_call call ≡ true → is_timeout timeout ≡ true → Kept f s → KeptOutcome f (first_wait_outcome s t core call timeout code)
+first_wait-kept : (f : Frame) (s : State) (t core : ℕ) (call : Call) (timeout : Option ℕ) (code : Code) → running_on s core ≡ Some t → is_fine_awaited (InCall call) ≡ true → is_timeout timeout ≡ true → Kept f s → KeptOutcome f (first_wait_outcome s t core call timeout code)
 first_wait-kept f s t core call None code runs fine timed kept = wait-kept f s t core (InCall call) None runs fine (λ d is. absurd cc) kept
 first_wait-kept f s t core call (Some zero) code runs fine timed kept = kept
 first_wait-kept f s t core call (Some (suc n)) code runs fine timed kept = wait-kept f s t core (InCall call) (Some (s.moment + suc n)) runs fine (span-ahead f s (suc n) (omega arith) timed kept) kept
@@ -63,12 +63,12 @@ past-later : (moment : ℕ) (due : Option ℕ) (d : ℕ) → is_past moment due 
 past-later moment None d is some = absurd cc
 past-later moment (Some e) d is some = let same : e ≡ d = some-is e d some in omega (arith, leb-false e moment is, same)
 
-repeated_wait-kept : (f : Frame) (s : State) (t core : ℕ) (call : Call) (due : Option ℕ) → running_on s core ≡ Some t → is_timed_call call ≡ true → IsNear f.now due → Kept f s → KeptOutcome f (repeated_wait_outcome s t core call due)
+repeated_wait-kept : (f : Frame) (s : State) (t core : ℕ) (call : Call) (due : Option ℕ) → running_on s core ≡ Some t → is_fine_awaited (InCall call) ≡ true → IsNear f.now due → Kept f s → KeptOutcome f (repeated_wait_outcome s t core call due)
 repeated_wait-kept f s t core call due runs fine near kept =
     if-outcome f (is_past s.moment due) (refusal s Code.Timeout) _ (λ is. kept) (λ is. wait-kept f s t core (InCall call) due runs fine (λ d some. (omega (arith, past-later s.moment due d is some, kept.moment_is), near d some)) kept)
 
 -- a call that can't be done now
-pub wait_or-kept : (f : Frame) (s : State) (by : By) (attempt : Attempt) (call : Call) (timeout : Option ℕ) (code : Code) → IsBy f s by → IsAttempt f attempt → is_timed_call call ≡ true → is_timeout timeout ≡ true → Kept f s → KeptOutcome f (wait_or_refusal s by attempt call timeout code)
+pub wait_or-kept : (f : Frame) (s : State) (by : By) (attempt : Attempt) (call : Call) (timeout : Option ℕ) (code : Code) → IsBy f s by → IsAttempt f attempt → is_fine_awaited (InCall call) ≡ true → is_timeout timeout ≡ true → Kept f s → KeptOutcome f (wait_or_refusal s by attempt call timeout code)
 wait_or-kept f s (ByThread t core) First call timeout code by tried fine timed kept = first_wait-kept f s t core call timeout code by.0 fine timed kept
 wait_or-kept f s (ByThread t core) (Again due) call timeout code by tried fine timed kept = repeated_wait-kept f s t core call due by.0 fine tried kept
 wait_or-kept f s (ByTimer name) attempt call timeout code by tried fine timed kept = kept
@@ -136,6 +136,7 @@ nest-kept f s nest runs kept = record {
   due_few = kept.due_few;
   single = kept.single;
   owned = kept.owned;
+  works_known = kept.works_known;
   fine = kept.fine;
   nest_runs = runs;
   timers_fine = kept.timers_fine;

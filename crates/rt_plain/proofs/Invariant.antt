@@ -1,10 +1,11 @@
 -- What each action keeps, and how the small changes of a state keep it.
-use Rattle.std.proofs.Common.{◌≡◌, ◌≢◌, ◌⊎◌, inl, inr, ◌+◌, ◌≤◌, ◌<◌, ◌∷◌, [], ◌++◌, ℕ, List, Option, Some, None, Bool, true, false, not, length, eqb, refl, sym, ap, ◌∙◌, subst, arith, eq-eqb, eqb-true, ne_eqb, slice_index_or, slice_set, filter, map, bytes_eq, if◌then◌else◌, ◌||◌}
+use Rattle.std.proofs.Common.{◌≡◌, ◌≢◌, ◌⊎◌, inl, inr, ◌+◌, ◌≤◌, ◌<◌, ◌∷◌, [], ◌++◌, ℕ, List, Option, Some, None, Bool, true, false, not, length, eqb, refl, sym, ap, ◌∙◌, subst, arith, eq-eqb, eqb-true, ne_eqb, slice_index_or, slice_set, filter, map, bytes_eq, if◌then◌else◌, ◌||◌, ◌&&◌}
 use Rattle.std.specs.List.{AllByRecursion, list_any}
 use Rattle.std.proofs.lemmas.Slice.Eq.{bytes_eq-Decides}
 use Rattle.std.proofs.lemmas.Bool.{eqb-false}
 use Rattle.std.proofs.lemmas.List.{length-map}
 use Rattle.rt_base.specs.declared.codes.Halt.{Halt}
+use Rattle.rt_plain.specs.declared.stmt.Call.{Call}
 use Rattle.rt_plain.specs.PlainBoard.{PlainBoard}
 use Rattle.rt_plain.specs.State.{State, Stage, Active, Waiting, Closed, Suspended, Awaited, InCall, AtConsole, AtWorks, Retry, Thread, Timer, Nest, Alarm, OfThread, OfTimer, ArmedRow, no_thread, thread_at, with_thread, running_on, is_number, is_closed, is_nest_of}
 use Rattle.rt_plain.specs.Effects.{with_ready_last, with_ready_first, without_ready, without_core, is_alarm, without_alarm, with_alarm, waiting_state, active_state}
@@ -43,9 +44,22 @@ pub record Parts : Type 0 where
 abbrev pub parts : State → Parts
 parts s = record { moment = s.moment; numbers = s.numbers; threads = s.threads; ready = s.ready; running = s.running; armed = s.armed; works = s.works; nest = s.nest; timers = s.timers; halt = s.halt }
 
--- what waits, or is to be made again, is timed
+-- the calls that may wait
+abbrev pub is_waiting_call : Call → Bool
+is_waiting_call (Call.Delay ticks) = true
+is_waiting_call (Call.SemTake name timeout) = true
+is_waiting_call (Call.EventRecv name mask all clear timeout) = true
+is_waiting_call (Call.MutexTake name timeout) = true
+is_waiting_call (Call.MbSend name word timeout) = true
+is_waiting_call (Call.MbRecv name timeout) = true
+is_waiting_call (Call.MqSend name timeout message) = true
+is_waiting_call (Call.MqRecv name timeout) = true
+is_waiting_call (Call.MpAlloc name timeout) = true
+is_waiting_call _ = false
+
+-- what waits, or is to be made again, is timed and may wait
 abbrev pub is_fine_awaited : Awaited → Bool
-is_fine_awaited (InCall call) = is_timed_call call
+is_fine_awaited (InCall call) = is_waiting_call call && is_timed_call call
 is_fine_awaited AtConsole = true
 is_fine_awaited AtWorks = true
 
@@ -106,6 +120,10 @@ is_work_of (OfTimer name) work = bytes_eq work name
 abbrev pub standings : Alarm → List (List ℕ) → List (ArmedRow Alarm) → ℕ
 standings alarm works armed = tally (is_work_of alarm) works + tally (λ row. is_alarm alarm row.alarm) armed
 
+-- a work is that of a timer that is there
+abbrev pub IsKnownWork : List Timer → List ℕ → Type 0
+IsKnownWork timers work = is_owned timers (OfTimer work) ≡ true
+
 -- how often a thread stands in the ready list and on cores
 abbrev pub places : List ℕ → List (Option ℕ) → ℕ → ℕ
 places ready running t = tally (λ u. eqb u t) ready + tally (is_number t) running
@@ -130,6 +148,7 @@ pub record Holds (f : Frame) (p : Parts) : Type 0 where
   pub due_few : tally (λ row. eqb row.due f.now) p.armed ≤ f.few
   pub single : (alarm : Alarm) → standings alarm p.works p.armed ≤ 1
   pub owned : AllByRecursion (IsOwned p.timers) p.armed
+  pub works_known : AllByRecursion (IsKnownWork p.timers) p.works
   pub fine : AllByRecursion (IsFineThread f.board f.now) p.threads
   pub nest_runs : IsNestRun f.board p.running p.nest
   pub timers_fine : AllByRecursion (IsFineTimer f.board) p.timers
@@ -190,6 +209,7 @@ thread-kept f s t row same fine kept = record {
   due_few = kept.due_few;
   single = kept.single;
   owned = kept.owned;
+  works_known = kept.works_known;
   fine = all-set (IsFineThread f.board f.now) s.threads t row fine kept.fine;
   nest_runs = kept.nest_runs;
   timers_fine = kept.timers_fine;
@@ -241,6 +261,7 @@ without_alarm-kept f s alarm kept = record {
   due_few = omega (arith, kept.due_few, tally-filter (λ (row : ArmedRow Alarm). eqb row.due f.now) (λ r. not (is_alarm alarm r.alarm)) s.armed);
   single = λ other. omega (arith, kept.single other, tally-filter (λ (r : ArmedRow Alarm). is_alarm other r.alarm) (λ r. not (is_alarm alarm r.alarm)) s.armed);
   owned = all-filter (IsOwned s.timers) (λ r. not (is_alarm alarm r.alarm)) s.armed kept.owned;
+  works_known = kept.works_known;
   fine = kept.fine;
   nest_runs = kept.nest_runs;
   timers_fine = kept.timers_fine;
@@ -278,6 +299,7 @@ with_alarm-kept f s alarm (Some d) alone owner waits ahead kept = record {
   due_few = omega (arith, kept.due_few, tally-last (λ (r : ArmedRow Alarm). eqb r.due f.now) s.armed row, undue);
   single = alone-more s.works s.armed row alone kept.single;
   owned = all-append (IsOwned s.timers) s.armed (row ∷ []) kept.owned (owner, tt);
+  works_known = kept.works_known;
   fine = kept.fine;
   nest_runs = kept.nest_runs;
   timers_fine = kept.timers_fine;
@@ -355,6 +377,7 @@ active-kept f s t idle open_stage kept = record {
   due_few = omega (arith, kept.due_few, tally-filter (λ (row : ArmedRow Alarm). eqb row.due f.now) (λ r. not (is_alarm (OfThread t) r.alarm)) s.armed);
   single = λ other. omega (arith, kept.single other, tally-filter (λ (r : ArmedRow Alarm). is_alarm other r.alarm) (λ r. not (is_alarm (OfThread t) r.alarm)) s.armed);
   owned = all-filter (IsOwned s.timers) (λ r. not (is_alarm (OfThread t) r.alarm)) s.armed kept.owned;
+  works_known = kept.works_known;
   fine = all-set (IsFineThread f.board f.now) s.threads t (record (thread_at s t) { stage = Active }) (refl, (fine-at f s t kept).1, λ is. (fine-at f s t kept).2 open_stage) kept.fine;
   nest_runs = kept.nest_runs;
   timers_fine = kept.timers_fine;
@@ -455,6 +478,7 @@ waiting-kept f s t core what due runs off fine ahead kept = with_alarm-kept f jo
     due_few = kept.due_few;
     single = kept.single;
     owned = kept.owned;
+    works_known = kept.works_known;
     fine = all-set (IsFineThread f.board f.now) s.threads t row (fine, (fine-at f s t kept).1, λ is. (fine-at f s t kept).2 (active-open (thread_at s t).stage (running-active f s core t kept runs))) kept.fine;
     nest_runs = nest-left f s t kept off;
     timers_fine = kept.timers_fine;
@@ -482,6 +506,7 @@ suspended-kept f s t active off kept = record {
   due_few = kept.due_few;
   single = kept.single;
   owned = kept.owned;
+  works_known = kept.works_known;
   fine = all-set (IsFineThread f.board f.now) s.threads t row (refl, (fine-at f s t kept).1, λ is. (fine-at f s t kept).2 (active-open (thread_at s t).stage active)) kept.fine;
   nest_runs = nest-left f s t kept off;
   timers_fine = kept.timers_fine;
@@ -531,6 +556,7 @@ withdrawn-kept f s t kept = record {
   due_few = omega (arith, kept.due_few, tally-filter (λ (row : ArmedRow Alarm). eqb row.due f.now) (λ r. not (is_alarm (OfThread t) r.alarm)) s.armed);
   single = λ other. omega (arith, kept.single other, tally-filter (λ (r : ArmedRow Alarm). is_alarm other r.alarm) (λ r. not (is_alarm (OfThread t) r.alarm)) s.armed);
   owned = all-filter (IsOwned s.timers) (λ r. not (is_alarm (OfThread t) r.alarm)) s.armed kept.owned;
+  works_known = kept.works_known;
   fine = all-set (IsFineThread f.board f.now) s.threads t row (refl, tt, λ is. absurd cc) kept.fine;
   nest_runs = ended-nest f s t kept s.nest refl;
   timers_fine = kept.timers_fine;
@@ -539,8 +565,8 @@ withdrawn-kept f s t kept = record {
   row = record (thread_at s t) { stage = Closed; retry = None }
 
 -- other works
-pub works-kept : (f : Frame) (s : State) (works : List (List ℕ)) → ((alarm : Alarm) → standings alarm works s.armed ≤ 1) → Kept f s → Kept f (record s { works = works })
-works-kept f s works single kept = record {
+pub works-kept : (f : Frame) (s : State) (works : List (List ℕ)) → ((alarm : Alarm) → standings alarm works s.armed ≤ 1) → AllByRecursion (IsKnownWork s.timers) works → Kept f s → Kept f (record s { works = works })
+works-kept f s works single known kept = record {
   moment_is = kept.moment_is;
   live = kept.live;
   ends = kept.ends;
@@ -552,6 +578,7 @@ works-kept f s works single kept = record {
   due_few = kept.due_few;
   single = single;
   owned = kept.owned;
+  works_known = known;
   fine = kept.fine;
   nest_runs = kept.nest_runs;
   timers_fine = kept.timers_fine;
@@ -571,6 +598,7 @@ reordered-kept f before s kept = record {
   due_few = kept.due_few;
   single = kept.single;
   owned = kept.owned;
+  works_known = kept.works_known;
   fine = kept.fine;
   nest_runs = kept.nest_runs;
   timers_fine = kept.timers_fine;
@@ -606,6 +634,7 @@ run-kept f s core p board_core free ready kept = record {
   due_few = kept.due_few;
   single = kept.single;
   owned = kept.owned;
+  works_known = kept.works_known;
   fine = kept.fine;
   nest_runs = nest-elsewhere f.board s.running s.nest core (Some p) (λ n is same. clash (running_on s n.core) (kept.nest_runs n is).0 (subst (λ c. running_on s c ≡ None) (sym same) free) (kept.nest_runs n is).1) kept.nest_runs;
   timers_fine = kept.timers_fine;
@@ -641,6 +670,7 @@ swap-kept f s core r p ready runs free some put kept = record {
   due_few = kept.due_few;
   single = kept.single;
   owned = kept.owned;
+  works_known = kept.works_known;
   fine = kept.fine;
   nest_runs = nest-elsewhere f.board s.running s.nest core (Some p) (λ n is same. clash (sym (eq-eqb n.core core same) ∙ (sym (ap (is_nest_of core) is) ∙ free))) kept.nest_runs;
   timers_fine = kept.timers_fine;

@@ -32,7 +32,7 @@ use Rattle.rt_plain.specs.Calls.{outcome_of}
 use Rattle.rt_plain.specs.Due.{with_period, timer_effect, timer_action_effect}
 use Rattle.rt_plain.specs.Sound.{is_waiting, is_span, is_timeout, is_timed_call, is_timed_action}
 use Rattle.rt_plain.proofs.TallyLemmas.{all-weaker, all-filter, all-append, all-map, all-found, same-set, other-set, one_if, tally, tally-filter, tally-dropped}
-use Rattle.rt_plain.proofs.Invariant.{Frame, Kept, stage_at, IsAhead, is_work_of, is_owned, IsOwned, IsFineTimer, fine-at, thread-kept, without_alarm-kept, with_alarm-kept, works-kept}
+use Rattle.rt_plain.proofs.Invariant.{Frame, Kept, stage_at, IsAhead, is_work_of, is_owned, IsOwned, IsKnownWork, IsFineTimer, fine-at, thread-kept, without_alarm-kept, with_alarm-kept, works-kept}
 use Rattle.rt_plain.proofs.WakeLemmas.{wake-kept, retry_wake-kept, wake-others, IsListed, AllApart, apart-map, waiters-listed, waiters-apart, waiters-wait, first-waits, each-wakes, for-kept, give_back-kept, found-passes}
 use Rattle.rt_plain.proofs.CallLemmas.{KeptOutcome, IsBy, IsAttempt, if-outcome, found-outcome, missing-kept, value-kept, text-kept, wait_or-kept, delay-kept, yield-kept, startup-kept, suspend-kept, resume-kept, kill-kept, set_prio-kept, lock-kept, unlock-kept, sched_lock-kept, sched_unlock-kept}
 use Rattle.rt_plain.proofs.TestLemmas.{and-left, and-right, or-left, or-right, or-second, some-is}
@@ -247,7 +247,7 @@ works-fewer : (s : State) (name : List ℕ) (alarm : Alarm) → tally (is_work_o
 works-fewer s name alarm = tally-filter (is_work_of alarm) (λ (work : List ℕ). not (bytes_eq work name)) s.works
 
 unworked-kept : (f : Frame) (s : State) (name : List ℕ) → Kept f s → Kept f (without_work s name)
-unworked-kept f s name kept = works-kept f s (without_work s name).works (λ alarm. omega (arith, kept.single alarm, works-fewer s name alarm)) kept
+unworked-kept f s name kept = works-kept f s (without_work s name).works (λ alarm. omega (arith, kept.single alarm, works-fewer s name alarm)) (all-filter (IsKnownWork s.timers) (λ (work : List ℕ). not (bytes_eq work name)) s.works kept.works_known) kept
 
 -- no test is passed by what none passes
 none-passes : {X : Type 0} (p : X → Bool) (xs : List X) → list_any p xs ≡ false → tally p xs ≡ 0
@@ -306,6 +306,7 @@ timer-kept f s timer fine kept = record {
   due_few = kept.due_few;
   single = kept.single;
   owned = all-weaker (IsOwned s.timers) (IsOwned (with_timer s timer).timers) s.armed (λ row is. replaced-owner s.timers timer row.alarm is) kept.owned;
+  works_known = all-weaker (IsKnownWork s.timers) (IsKnownWork (with_timer s timer).timers) s.works (λ work is. replaced-owner s.timers timer (OfTimer work) is) kept.works_known;
   fine = kept.fine;
   nest_runs = kept.nest_runs;
   timers_fine = replaced-fine f.board s.timers timer fine kept.timers_fine;

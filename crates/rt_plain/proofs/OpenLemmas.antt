@@ -236,6 +236,7 @@ opened-kept b proper = subst (λ (s : State). Kept (still b 0) (record s { ready
     due_few = omega (arith, none-due all_timers from.armed from.rows);
     single = from.single;
     owned = all-weaker (IsTimerRow all_timers) (IsOwned all_timers) from.armed (λ row is. is.2) from.rows;
+    works_known = tt;
     fine = all-weaker (IsNewThread b) (IsFineThread b 0) threads (λ row is. is.1) news;
     nest_runs = λ n is. absurd cc;
     timers_fine = all-reverse (IsFineTimer b) (map new_timer b.timers) (timers-new b b.timers timers (recursion_from_All (Contains b.timers) b.timers (All-contains_itself b.timers)));

@@ -1,6 +1,6 @@
 -- Statements of threads keep what holds of a state.
 use Rattle.std.proofs.Common.{◌≡◌, inl, inr, ◌+◌, ◌-◌, ◌∷◌, [], ℕ, zero, suc, List, Option, Some, None, Bool, true, false, eqb, refl, sym, ◌∙◌, subst, slice_get, unwrap_or, option_map, if◌then◌else◌, bytes_eq, ◌≤◌, length, slice_set, arith, ap, ◌<◌, ◌⊎◌, inl, inr}
-use Rattle.std.specs.List.{find, list_any, list_all, before_first, after_first}
+use Rattle.std.specs.List.{AllByRecursion, find, list_any, list_all, before_first, after_first}
 use Rattle.std.proofs.lemmas.List.Elements.{recursion_from_All}
 use Rattle.std.proofs.lemmas.Slice.Eq.{bytes_eq-Decides}
 use Rattle.rt_base.specs.declared.codes.Code.{Code}
@@ -18,10 +18,10 @@ use Rattle.rt_plain.specs.DeviceCalls.{find_device}
 use Rattle.rt_plain.specs.Statements.{script_of, statement_at, is_shell, is_soft_thread, with_next, print_effect, said_text, with_counter, plain_effect, with_answer, call_effect, done_effect, next_statement_effect, repeated_call_effect, script_effect, thread_effect, statement_effect, target}
 use Rattle.rt_plain.specs.TimerCalls.{find_timer}
 use Rattle.rt_plain.specs.SoftTurn.{work_effect, soft_turn_effect, soft_effect}
-use Rattle.rt_plain.specs.Sound.{is_timed, IsProper}
+use Rattle.rt_plain.specs.Sound.{is_timed, is_timed_call, IsProper}
 use Rattle.rt_plain.specs.Owners.{close_effect, withdrawn_state, give_back_effect, mutexes_of}
 use Rattle.rt_plain.proofs.TallyLemmas.{one_if, tally, all-found, same-set, le_or_lt, past-end, length-set_at, here-set}
-use Rattle.rt_plain.proofs.Invariant.{Frame, Kept, parts, is_fine_awaited, IsNear, IsFineRetry, is_scriptless, is_work_of, standings, IsOffNest, fine-at, thread-kept, waiting-kept, reordered-kept, withdrawn-kept, works-kept}
+use Rattle.rt_plain.proofs.Invariant.{Frame, Kept, parts, is_waiting_call, is_fine_awaited, IsNear, IsFineRetry, is_scriptless, is_work_of, standings, IsKnownWork, IsOffNest, fine-at, thread-kept, waiting-kept, reordered-kept, withdrawn-kept, works-kept}
 use Rattle.rt_plain.proofs.WakeLemmas.{close-kept, each-kept, give_back-kept}
 use Rattle.rt_plain.proofs.CallLemmas.{KeptOutcome, IsBy}
 use Rattle.rt_plain.proofs.ObjectLemmas.{outcome-kept, action-kept, found-timer, found-owner, found-name}
@@ -149,7 +149,7 @@ repeated-kept f s t core retry AtConsole fine near by kept = kept
 repeated-kept f s t core retry AtWorks fine near by kept = kept
 repeated-kept f s t core retry (InCall call) fine near by kept =
     let free : State = with_thread s t (record (thread_at s t) { retry = None }) in
-    called-kept f t (Line.Again (thread_at s t).name ((thread_at s t).next - 1)) (outcome_of f.board call free (ByThread t core) (Again retry.due)) (outcome-kept f f.board free call (ByThread t core) (Again retry.due) fine by near (unretried-kept f s t kept))
+    called-kept f t (Line.Again (thread_at s t).name ((thread_at s t).next - 1)) (outcome_of f.board call free (ByThread t core) (Again retry.due)) (outcome-kept f f.board free call (ByThread t core) (Again retry.due) (and-right (is_waiting_call call) (is_timed_call call) fine) by near (unretried-kept f s t kept))
 
 script-kept : (f : Frame) (s : State) (t core : ℕ) (retry : Option Retry) → IsFineRetry f.now retry → IsProper f.board → IsBy f s (ByThread t core) → Kept f s → Kept f (script_effect f.board t core retry s).state
 script-kept f s t core None fine timed by kept = next_statement-kept f s t core timed by kept
@@ -194,7 +194,7 @@ worked-kept f s name (Some timer) is idle kept = action-kept f s (Line.Work time
 
 softly-kept : (f : Frame) (s : State) (t core : ℕ) (works : List (List ℕ)) → s.works ≡ works → running_on s core ≡ Some t → is_soft_thread f.board t ≡ true → Kept f s → Kept f (soft_turn_effect f.board t works s).state
 softly-kept f s t core [] is runs soft kept = let free : State = with_thread s t (record (thread_at s t) { retry = None }) in waiting-kept f free t core AtWorks None runs (scriptless-off f free t (or-second (is_shell f.board t) _ soft) (unretried-kept f s t kept)) refl (λ d is. absurd cc) (unretried-kept f s t kept)
-softly-kept f s t core (name ∷ names) is runs soft kept = worked-kept f left name (find_timer left name) refl idle (works-kept f free names fewer (unretried-kept f s t kept)) where
+softly-kept f s t core (name ∷ names) is runs soft kept = worked-kept f left name (find_timer left name) refl idle (works-kept f free names fewer known (unretried-kept f s t kept)) where
   free : State
   free = with_thread s t (record (thread_at s t) { retry = None })
 
@@ -206,6 +206,9 @@ softly-kept f s t core (name ∷ names) is runs soft kept = worked-kept f left n
 
   fewer : (alarm : Alarm) → standings alarm names s.armed ≤ 1
   fewer alarm = omega (arith, before alarm)
+
+  known : AllByRecursion (IsKnownWork s.timers) names
+  known = (subst (AllByRecursion (IsKnownWork s.timers)) is kept.works_known).1
 
   idle : tally (is_work_of (OfTimer name)) names ≡ 0
   idle = omega (arith, before (OfTimer name), ap one_if ((bytes_eq-Decides name name).1 refl))

@@ -14,8 +14,8 @@ use Rattle.rt_plain.specs.DeviceCalls.{find_device, with_device, console_waiter,
 use Rattle.rt_plain.specs.Due.{put_by_number, by_number, due, timeout_code, timeout_effect, soft_timer_effect, fired_timer_effect, alarm_effect, fired_row_effect, due_rows_effect}
 use Rattle.rt_plain.specs.Ticks.{thread_after_slice, with_slice_used, next_tick_state, alarms_effect, arrivals_now, deliveries, transmissions, with_until_halt, tick_effect}
 use Rattle.rt_plain.specs.Sound.{is_waiting}
-use Rattle.rt_plain.proofs.TallyLemmas.{one_if, tally, tally-last, tally-filter, tally-dropped, all-weaker, all-passing, all-both}
-use Rattle.rt_plain.proofs.Invariant.{Frame, Kept, is_owned, is_work_of, standings, IsFineThread, IsFineTimer, IsWaited, IsRowKept, fine-at, fine-later, bounded-later, thread-kept, without_alarm-kept, works-kept}
+use Rattle.rt_plain.proofs.TallyLemmas.{one_if, tally, tally-last, tally-filter, tally-dropped, all-weaker, all-append, all-passing, all-both}
+use Rattle.rt_plain.proofs.Invariant.{Frame, Kept, is_owned, is_work_of, standings, IsKnownWork, IsFineThread, IsFineTimer, IsWaited, IsRowKept, fine-at, fine-later, bounded-later, thread-kept, without_alarm-kept, works-kept}
 use Rattle.rt_plain.proofs.WakeLemmas.{wake-kept, retry_wake-kept, console-waiter-waits, work-waiter-waits, each-kept, for-kept}
 use Rattle.rt_plain.proofs.ObjectLemmas.{action-kept, found-owner, found-timer, found-name, sem_release-kept}
 use Rattle.rt_plain.proofs.StatementLemmas.{if-effect, settled-kept}
@@ -38,6 +38,7 @@ few-kept f n s few kept = record {
   due_few = few;
   single = kept.single;
   owned = kept.owned;
+  works_known = kept.works_known;
   fine = kept.fine;
   nest_runs = kept.nest_runs;
   timers_fine = kept.timers_fine;
@@ -131,14 +132,14 @@ work-more works armed name alone single (OfTimer n) = by_test (bytes_eq name n) 
   by_test true is = omega (arith, tally-last (is_work_of (OfTimer n)) works name, ap one_if is, subst (λ (m : List ℕ). standings (OfTimer m) works armed ≡ 0) ((bytes_eq-Decides name n).0 is) alone)
   by_test false is = omega (arith, tally-last (is_work_of (OfTimer n)) works name, ap one_if is, single (OfTimer n))
 
-soft-kept : (f : Frame) (s : State) (name : List ℕ) → standings (OfTimer name) s.works s.armed ≡ 0 → Kept f s → Kept f (soft_timer_effect name s).state
-soft-kept f s name alone kept = for-kept f retry_wake_effect (work_waiter (with_work s name)) (with_work s name) (λ t is. retry_wake-kept f (with_work s name) t (work-waiter-waits (with_work s name) t is) worked) worked where
+soft-kept : (f : Frame) (s : State) (name : List ℕ) → standings (OfTimer name) s.works s.armed ≡ 0 → is_owned s.timers (OfTimer name) ≡ true → Kept f s → Kept f (soft_timer_effect name s).state
+soft-kept f s name alone owner kept = for-kept f retry_wake_effect (work_waiter (with_work s name)) (with_work s name) (λ t is. retry_wake-kept f (with_work s name) t (work-waiter-waits (with_work s name) t is) worked) worked where
   worked : Kept f (with_work s name)
-  worked = works-kept f s (with_work s name).works (work-more s.works s.armed name alone kept.single) kept
+  worked = works-kept f s (with_work s name).works (work-more s.works s.armed name alone kept.single) (all-append (IsKnownWork s.timers) s.works (name ∷ []) kept.works_known (owner, tt)) kept
 
 fired-kept : (f : Frame) (s : State) (o : Option Timer) → ((timer : Timer) → o ≡ Some timer → IsFineTimer f.board timer × (is_owned s.timers (OfTimer timer.name) ≡ true) × (standings (OfTimer timer.name) s.works s.armed ≡ 0)) → Kept f s → Kept f (fired_timer_effect f.board o s).state
 fired-kept f s None fine kept = kept
-fired-kept f s (Some timer) fine kept = if-effect f (is_soft timer.kind) (soft_timer_effect timer.name s) _ (λ soft. soft-kept f s timer.name (fine timer refl).2 kept)
+fired-kept f s (Some timer) fine kept = if-effect f (is_soft timer.kind) (soft_timer_effect timer.name s) _ (λ soft. soft-kept f s timer.name (fine timer refl).2 (fine timer refl).1 kept)
     (λ hard. action-kept f s (Line.Fire timer.name) timer (fine timer refl).0 (fine timer refl).1 (omega (arith, (fine timer refl).2)) kept)
 
 alarm-kept : (f : Frame) (s : State) (alarm : Alarm) → IsWaited s.threads alarm → standings alarm s.works s.armed ≡ 0 → Kept f s → Kept f (alarm_effect f.board alarm s).state
@@ -192,6 +193,7 @@ risen-kept b now s kept = record {
   due_few = omega arith;
   single = kept.single;
   owned = kept.owned;
+  works_known = kept.works_known;
   fine = fine-later b now s.threads kept.fine;
   nest_runs = kept.nest_runs;
   timers_fine = kept.timers_fine;
@@ -243,6 +245,7 @@ settled-still b now s kept = record {
   due_few = kept.due_few;
   single = kept.single;
   owned = kept.owned;
+  works_known = kept.works_known;
   fine = kept.fine;
   nest_runs = kept.nest_runs;
   timers_fine = kept.timers_fine;
@@ -291,6 +294,7 @@ until-kept b now s kept = by_test (eqb s.moment b.until) refl where
     due_few = kept.due_few;
     single = kept.single;
     owned = kept.owned;
+    works_known = kept.works_known;
     fine = kept.fine;
     nest_runs = kept.nest_runs;
     timers_fine = kept.timers_fine;
@@ -309,6 +313,7 @@ until-kept b now s kept = by_test (eqb s.moment b.until) refl where
     due_few = kept.due_few;
     single = kept.single;
     owned = kept.owned;
+    works_known = kept.works_known;
     fine = kept.fine;
     nest_runs = kept.nest_runs;
     timers_fine = kept.timers_fine;
