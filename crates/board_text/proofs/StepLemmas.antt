@@ -1,6 +1,7 @@
 -- Line after line, the outcome stays the same.
 use Rattle.std.proofs.Common.{◌≡◌, ℕ, Bool, true, false, eqb, cond, ◌+◌, ◌≤◌, List, [], ◌∷◌, length, Some, Result, Ok, Err, refl, sym, ap, ◌∙◌, subst, inl, inr}
 use Rattle.std.specs.Prelude.{IfOk, IfErr}
+use Rattle.std.proofs.lemmas.List.{nil_from_length}
 use Rattle.rt_plain.specs.declared.why.Why.{Why}
 use Rattle.rt_plain.specs.PlainBoard.{PlainBoard}
 use Rattle.rt_plain.specs.Splits.{lines_of}
@@ -32,9 +33,15 @@ finished : (s : SoFar) (n : ℕ) (t : Bool) (r : Result PlainBoard Bad) → eqb 
 finished s n true r e f h = absurd cc
 finished s n false r e f h = sym h
 
--- the board is valid once all lines are read
-pub finished_is_valid : (bytes : List ℕ) (s : SoFar) (n : ℕ) → outcome s n [] ≡ reading bytes → eqb s.rank 0 ≡ false → IsValid s.board
-finished_is_valid bytes s n e f = read_is_valid bytes s.board (board-takes start 1 (lines_of bytes) s.board (sound-start.cores) (finished s n (eqb s.rank 0) (reading bytes) refl f e))
+-- the board comes out once all lines are read
+pub finished_is : (bytes rest : List ℕ) (s : SoFar) (n : ℕ) → length rest ≡ 0 → outcome s n (lines_of rest) ≡ reading bytes → eqb s.rank 0 ≡ false → reading bytes ≡ read s.board
+finished_is bytes rest s n none e f =
+    finished s n (eqb s.rank 0) (reading bytes) refl f
+    (ap (λ (r : List ℕ). outcome s n (lines_of r)) (sym (nil_from_length rest none)) ∙ e)
+
+-- and it is valid
+pub finished_is_valid : (bytes : List ℕ) (b : PlainBoard) → reading bytes ≡ read b → IsValid b
+finished_is_valid bytes b e = read_is_valid bytes b (board-takes start 1 (lines_of bytes) b sound-start.cores e)
 
 -- ---- what the answer says
 

@@ -1,10 +1,10 @@
-use Rattle.std.proofs.lemmas.List.{nil_from_length}
 use Rattle.std.proofs.lemmas.Bool.{ne_eqb}
-use Rattle.std.proofs.Common.{◌≡◌, ◌+◌, ◌-◌, ◌<◌, [], rules, length, take, drop, arith, sym, ap, ◌∙◌, List, ℕ, length-drop}
+use Rattle.std.proofs.Common.{◌≡◌, ◌+◌, ◌-◌, ◌<◌, false, eqb, rules, length, take, drop, Ok, arith, sym, ap, ◌∙◌, List, ℕ, length-drop}
+use Rattle.rt_plain.specs.PlainBoard.{PlainBoard}
 use Rattle.rt_plain.specs.Splits.{lines_of}
 use Rattle.rt_plain.specs.BoardText.{outcome}
 use Rattle.board_text.specs.Drafts.{so_far}
-use Rattle.board_text.proofs.StepLemmas.{next_is, finished_is_valid}
+use Rattle.board_text.proofs.StepLemmas.{next_is, finished_is, finished_is_valid}
 use Rattle.board_text.proofs.reading.read_all.Goals as goal
 
 pub loop-rest-preserved : goal.loop-rest-preserved
@@ -21,8 +21,15 @@ loop-rest-preserved c =
 
 pub finish-requires : goal.finish-requires
 finish-requires c =
-    let rest = c.loop-rest.rest.now in
-    let none : rest ≡ [] = nil_from_length rest (search (rules, c.loop-rest-test.ensures)) in
-    finished_is_valid c.args.text.now (so_far c.loop-rest.draft) c.loop-rest.no
-    (ap (λ (r : List ℕ). outcome (so_far c.loop-rest.draft) c.loop-rest.no (lines_of r)) (sym none) ∙ c.loop-rest.invariant.so_far)
-    (ne_eqb c.loop-rest.draft.rank 0 c.if-draft-eq0.false)
+    let s = so_far c.loop-rest.draft in
+    let none : length c.loop-rest.rest.now ≡ 0 = search (rules, c.loop-rest-test.ensures) in
+    let first : eqb s.rank 0 ≡ false = ne_eqb s.rank 0 c.if-draft-eq0.false in
+    finished_is_valid c.args.text.now s.board (finished_is c.args.text.now c.loop-rest.rest.now s c.loop-rest.no none c.loop-rest.invariant.so_far first)
+
+pub returns : goal.returns
+returns c =
+    let s = so_far c.loop-rest.draft in
+    let none : length c.loop-rest.rest.now ≡ 0 = search (rules, c.loop-rest-test.ensures) in
+    let first : eqb s.rank 0 ≡ false = ne_eqb s.rank 0 c.if-draft-eq0.false in
+    finished_is c.args.text.now c.loop-rest.rest.now s c.loop-rest.no none c.loop-rest.invariant.so_far first
+    ∙ ap (λ (b : PlainBoard). Ok b) (sym c.finish.ensures)
