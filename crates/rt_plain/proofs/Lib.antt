@@ -16,6 +16,7 @@ pub mod StatementLemmas
 pub mod TickLemmas
 pub mod StepLemmas
 pub mod OpenLemmas
+pub mod ActionLemmas
 pub mod SoundLemmas
 pub mod NumberLemmas
 pub mod SplitLemmas
