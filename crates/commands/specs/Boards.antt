@@ -3,7 +3,8 @@ use Rattle.std.specs.Prelude.{◌≡◌, ◌⊎◌, ◌<◌, ◌≤◌, ℕ, Lis
 use Rattle.rt_plain.specs.PlainBoard.{PlainBoard}
 use Rattle.rt_plain.specs.BoardText.{IsBoard, first_bad}
 use Rattle.rt_plain.specs.Canon.{canonical_text}
-use Rattle.rt_plain.specs.Commands.{Command, run_of, run_text, console_text}
+use Rattle.rt_plain.specs.Commands.{Command, run_text, console_text}
+use Rattle.rt_plain.specs.Ends.{run_of}
 use Rattle.rt_plain.specs.Runs.{Course}
 use Rattle.rt_plain.specs.declared.why.Why.{Why}
 use Rattle.kernel_step.specs.Built.{is_built}

@@ -1,5 +1,6 @@
 ghost use Rattle.std.specs.Prelude.{◌≡◌, ◌≤◌, IfOk, IfErr, None, length};
-ghost use Rattle.rt_plain.specs.Commands.{end_of, run_text, console_text};
+ghost use Rattle.rt_plain.specs.Commands.{run_text, console_text};
+ghost use Rattle.rt_plain.specs.Ends.{end_of};
 ghost use Rattle.rt_plain.specs.Texts.{trace_text, console_of};
 ghost use Rattle.journal.specs.Ending.{ending};
 ghost use Rattle.commands.specs.Words.{plain};
@@ -27,9 +28,9 @@ pub enum Refusal {
     Memory,
 }
 
-// How the run ended, if it has halted.
+// How the run ended, if it has halted, and the tick that was shown then.
 fn end_of(machine: &Machine) -> Option<(Halt, u32)>
-    ensures { ending result ≡ end_of machine.now.course }
+    ensures { ending result ≡ end_of machine.now.board machine.now.course }
 {
     match machine.halt() {
         Some(halt) => Some((halt, machine.tick())),
@@ -68,7 +69,7 @@ fn ran(alloc: Global, bytes: &[u8]) -> Result<Machine, Refusal>
 
 // The trace of the run that a machine has made.
 fn trace_of(alloc: Global, machine: &Machine) -> Result<List<u8>, AllocError>
-    ensures { IfOk result (λ text. text ≡ trace_text machine.now.course.journal None (end_of machine.now.course)) }
+    ensures { IfOk result (λ text. text ≡ trace_text machine.now.course.journal None (end_of machine.now.board machine.now.course)) }
 {
     text(alloc, machine.journal(), None, end_of(machine))
 }

@@ -35,7 +35,7 @@ built b is kernel =
 
 -- the room for one event's lines
 pub room-built : (b : PlainBoard) → IsBuilt b → room b ≡ (length b.threads + 1) * (2 * length b.threads + 4) + 305
-room-built b built = rw (built.kernel.shell, built.kernel.timers, built.kernel.devices) (omega arith)
+room-built b built = rw (built.kernel.shell, built.kernel.soft, built.kernel.timers, built.kernel.devices) (omega arith)
 
 -- which is enough for each thread's row, and for a statement
 pub room-enough : (b : PlainBoard) → IsBuilt b → 2 * length b.threads + 2 ≤ room b

@@ -1,4 +1,4 @@
--- The rows that are due at a tick fire, one after the other.
+-- The rows that are due at a moment fire, one after the other.
 use Rattle.std.proofs.Common.{◌≡◌, ℕ, zero, suc, ◌+◌, ◌*◌, ◌<◌, ◌≤◌, arith, length, List, [], ◌∷◌, ◌++◌, Some, None, false, refl, sym, ap, ◌∙◌, subst}
 use Rattle.std.proofs.lemmas.List.{append-nil, append_assoc}
 use Rattle.rt_plain.specs.declared.line.Line.{Line}

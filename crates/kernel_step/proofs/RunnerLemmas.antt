@@ -13,21 +13,21 @@ use Rattle.rt_plain.specs.Ticks.{tick_effect}
 use Rattle.rt_plain.specs.Steps.{happens}
 use Rattle.rt_plain.specs.Opening.{open_state}
 use Rattle.rt_plain.specs.Runs.{Course, after, opened, course_after, course_unless, is_over, entry_tick, line_count, IsCompleteIn}
-use Rattle.rt_plain.specs.Commands.{run_of}
+use Rattle.rt_plain.specs.Ends.{run_of}
 use Rattle.std.proofs.lemmas.List.Elements.{All-nil}
 use Rattle.rt_plain.specs.Schedules.{most_turns, Driven, moved, turns, driven, begun, is_stopped, is_sleep_of, state_after, rounds, round_count, closing_event, place_unless_slept, place_after_closing, IsDriveable, IsScheduled}
 use Rattle.kernel_step.specs.Seen.{MachineSeen, limit_of}
 use Rattle.kernel_step.specs.Built.{IsBuilt}
 use Rattle.kernel_step.specs.Ends.{place_of, stands, turns_left, IsOnWay, IsLimited, HasCompleted}
 
-after-live : (b : PlainBoard) (c : Course) (e : Event) → c.halt ≡ None → course_after c e (happens b c.state e) ≡ after b c e
+after-live : (b : PlainBoard) (c : Course) (e : Event) → c.halt ≡ None → course_after b c e (happens b c.state e) ≡ after b c e
 unfolding after
-after-live b c e live = subst (λ o. course_after c e (happens b c.state e) ≡ course_unless o c (course_after c e (happens b c.state e))) (sym live) refl
+after-live b c e live = subst (λ o. course_after b c e (happens b c.state e) ≡ course_unless o c (course_after b c e (happens b c.state e))) (sym live) refl
 
-state-course : (c : Course) (e : Event) (d : Did) → state_after c.state d ≡ (course_after c e d).state
-state-course c e (Made s lines) = refl
-state-course c e Same = refl
-state-course c e (Halted h) = refl
+state-course : (b : PlainBoard) (c : Course) (e : Event) (d : Did) → state_after c.state d ≡ (course_after b c e d).state
+state-course b c e (Made s lines) = refl
+state-course b c e Same = refl
+state-course b c e (Halted h) = refl
 
 rounds-one : (b : PlainBoard) (n : ℕ) → b.cores ≡ 1 → rounds b n ≡ replicate n 0
 rounds-one b zero one = refl
@@ -44,7 +44,7 @@ closed_by b c o =
     let did = happens b c.state (closing_event o) in
     record {
       place = place_unless_slept b Schedule.Round (place_after_closing b Schedule.Round (place_of 0) (state_after c.state did) o) (state_after c.state did) (is_sleep_of did);
-      course = course_after c (closing_event o) did;
+      course = course_after b c (closing_event o) did;
     }
 
 -- the tick at the period's end
@@ -52,24 +52,24 @@ pub moved-tick : (b : PlainBoard) (c : Course) → b.cores ≡ 1 → c.halt ≡ 
 unfolding moved
 moved-tick b c one live free awake =
     subst (λ (o : Option Nest). closed_by b c o ≡ stands (after b c Event.Tick) (round_count (after b c Event.Tick).state.run_mode)) (sym free)
-    (rw (awake, state-course c Event.Tick (happens b c.state Event.Tick), after-live b c Event.Tick live, rounds-one b (round_count (after b c Event.Tick).state.run_mode) one) refl)
+    (rw (awake, state-course b c Event.Tick (happens b c.state Event.Tick), after-live b c Event.Tick live, rounds-one b (round_count (after b c Event.Tick).state.run_mode) one) refl)
 
-course-more : (c : Course) (e : Event) (d : Did) → length c.journal ≤ length (course_after c e d).journal
-course-more c e (Made s lines) = omega (arith, length-append c.journal (record { event = e; tick = entry_tick e c.state s; lines = lines } ∷ []))
-course-more c e Same = omega arith
-course-more c e (Halted h) = omega arith
+course-more : (b : PlainBoard) (c : Course) (e : Event) (d : Did) → length c.journal ≤ length (course_after b c e d).journal
+course-more b c e (Made s lines) = omega (arith, length-append c.journal (record { event = e; tick = entry_tick b e c.state s; lines = lines } ∷ []))
+course-more b c e Same = omega arith
+course-more b c e (Halted h) = omega arith
 
 -- no event takes an entry away
 pub after-more : (b : PlainBoard) (c : Course) (e : Event) → c.halt ≡ None → length c.journal ≤ length (after b c e).journal
-after-more b c e live = subst (λ (d : Course). length c.journal ≤ length d.journal) (after-live b c e live) (course-more c e (happens b c.state e))
+after-more b c e live = subst (λ (d : Course). length c.journal ≤ length d.journal) (after-live b c e live) (course-more b c e (happens b c.state e))
 
-course-one : (c : Course) (e : Event) (d : Did) → length (course_after c e d).journal ≤ length c.journal + 1
-course-one c e (Made s lines) = omega (arith, length-append c.journal (record { event = e; tick = entry_tick e c.state s; lines = lines } ∷ []))
-course-one c e Same = omega arith
-course-one c e (Halted h) = omega arith
+course-one : (b : PlainBoard) (c : Course) (e : Event) (d : Did) → length (course_after b c e d).journal ≤ length c.journal + 1
+course-one b c e (Made s lines) = omega (arith, length-append c.journal (record { event = e; tick = entry_tick b e c.state s; lines = lines } ∷ []))
+course-one b c e Same = omega arith
+course-one b c e (Halted h) = omega arith
 
 pub after-one : (b : PlainBoard) (c : Course) (e : Event) → c.halt ≡ None → length (after b c e).journal ≤ length c.journal + 1
-after-one b c e live = subst (λ (d : Course). length d.journal ≤ length c.journal + 1) (after-live b c e live) (course-one c e (happens b c.state e))
+after-one b c e live = subst (λ (d : Course). length d.journal ≤ length c.journal + 1) (after-live b c e live) (course-one b c e (happens b c.state e))
 
 tick-made : (b : PlainBoard) (s : State) → s.halt ≡ None → s.nest ≡ None → happens b s Event.Tick ≡ Made (tick_effect b s).state (tick_effect b s).lines
 unfolding happens
@@ -78,7 +78,7 @@ tick-made b s live free = rw (live, free) refl
 -- a tick adds one
 pub tick-one : (b : PlainBoard) (c : Course) → c.halt ≡ None → c.state.halt ≡ None → c.state.nest ≡ None → length (after b c Event.Tick).journal ≡ length c.journal + 1
 tick-one b c live on free =
-    let made : length (course_after c Event.Tick (happens b c.state Event.Tick)).journal ≡ length c.journal + 1 = rw (tick-made b c.state on free) (length-append c.journal _) in
+    let made : length (course_after b c Event.Tick (happens b c.state Event.Tick)).journal ≡ length c.journal + 1 = rw (tick-made b c.state on free) (length-append c.journal _) in
     subst (λ (d : Course). length d.journal ≡ length c.journal + 1) (after-live b c Event.Tick live) made
 
 not-stopped : (o : Option Halt) (b : Bool) → o ≡ None → b ≡ false → is_some o || b ≡ false

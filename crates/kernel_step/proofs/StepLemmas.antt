@@ -8,14 +8,14 @@ use Rattle.rt_base.specs.declared.codes.Sleep.{Sleep}
 use Rattle.rt_plain.specs.declared.line.Line.{Line}
 use Rattle.rt_plain.specs.declared.stmt.Stmt.{Stmt}
 use Rattle.rt_plain.specs.PlainBoard.{PlainBoard}
-use Rattle.rt_plain.specs.State.{State, Retry, thread_at, running_on, is_nest_of_other, Device, Nest}
+use Rattle.rt_plain.specs.State.{State, Retry, Arriving, thread_at, running_on, is_nest_of_other, Device, Nest}
 use Rattle.rt_plain.specs.Pick.{pick}
 use Rattle.rt_plain.specs.Effects.{Effect}
-use Rattle.rt_plain.specs.Statements.{statement_effect, script_effect, script_of, statement_at, done_effect, with_next}
+use Rattle.rt_plain.specs.Statements.{statement_effect, script_effect, is_soft_thread, script_of, statement_at, done_effect, with_next}
 use Rattle.rt_plain.specs.Shell.{shell_effect}
+use Rattle.rt_plain.specs.SoftTurn.{soft_effect}
 use Rattle.rt_plain.specs.Calls.{settled_effect}
 use Rattle.rt_plain.specs.Schedules.{is_sleep}
-use Rattle.rt_plain.specs.declared.board.Arrival.{Arrival}
 use Rattle.rt_plain.specs.DeviceCalls.{is_sending}
 use Rattle.rt_plain.specs.PowerCalls.{sleep_mode, voted_mode}
 use Rattle.rt_plain.specs.Sleeps.{Did, Made, Same, Halted, is_empty, rest_did, halting_rest_did, awake_rest_did, final_halt, stops_ticks, sleep_length, sleep_did}
@@ -90,7 +90,7 @@ rest-is : (b : PlainBoard) (s : State) → b.default_mode ≡ Sleep.NoSleep → 
 rest-is b s mode alone =
     ap (λ (c : Bool). if c then Same else halting_rest_did b (final_halt (sleep_mode b s)) s) (ap (λ (ds : List Device). list_any is_sending ds) alone.devices)
     ∙ ap (λ (h : Option Halt). halting_rest_did b h s) (ap final_halt asleep)
-    ∙ ap (λ (c : Bool). if c then Halted Halt.Quiet else awake_rest_did b s) (ap (λ (ars : List Arrival). is_empty s.armed && is_empty ars) alone.arrivals)
+    ∙ ap (λ (c : Bool). if c then Halted Halt.Quiet else awake_rest_did b s) (ap (λ (ars : List Arriving). is_empty s.armed && is_empty ars) alone.arrivals)
     ∙ by_quiet (is_empty s.armed) where
       asleep : sleep_mode b s ≡ Sleep.NoSleep
       asleep = ap (λ (vs : List ℕ). voted_mode b.default_mode vs) alone.votes ∙ mode
@@ -132,14 +132,16 @@ takes_awake s core e is = by_case (running_on s core) (pick s core) is where
   by_case (Some r) None is = absurd cc
   by_case (Some r) (Some p) is = by_test r p (is_preemptible s core r && takes_from s p r) is
 
-abbrev by_shell : PlainBoard → ℕ → ℕ → State → Bool → Option Retry → Effect
-by_shell b t core s c retry = settled_effect b s (if c then shell_effect b t s else script_effect b t core retry s)
+-- the statement of a thread, by whether it is the shell's or that of soft timers
+abbrev by_owner : PlainBoard → ℕ → ℕ → State → Bool → Bool → Option Retry → Effect
+by_owner b t core s shell soft retry = settled_effect b s (if shell then shell_effect b t s else if soft then soft_effect b t s else script_effect b t core retry s)
 
 -- nor does a statement
-pub states_awake : (b : PlainBoard) (s : State) (t core : ℕ) → b.shell ≡ None → (thread_at s t).retry ≡ None → is_sleep (statement_effect b t core s).lines ≡ false
-states_awake b s t core shell retry =
-    ap (λ (o : Option ℕ). is_sleep (by_shell b t core s (is_some o && eqb t 0) (thread_at s t).retry).lines) shell
-    ∙ ap (λ (r : Option Retry). is_sleep (by_shell b t core s false r).lines) retry
+pub states_awake : (b : PlainBoard) (s : State) (t core : ℕ) → b.shell ≡ None → b.soft ≡ None → (thread_at s t).retry ≡ None → is_sleep (statement_effect b t core s).lines ≡ false
+states_awake b s t core shell soft retry =
+    ap (λ (o : Option ℕ). is_sleep (by_owner b t core s (is_some o && eqb t 0) (is_soft_thread b t) (thread_at s t).retry).lines) shell
+    ∙ ap (λ (o : Option ℕ). is_sleep (by_owner b t core s false (is_some o && eqb t (if is_some b.shell then 1 else 0)) (thread_at s t).retry).lines) soft
+    ∙ ap (λ (r : Option Retry). is_sleep (by_owner b t core s false false r).lines) retry
     ∙ by_statement (statement_at (script_of b (thread_at s t).name) (thread_at s t).next) where
       by_statement : (st : Stmt) → is_sleep (settled_effect b s (done_effect b t core (thread_at s t).name (thread_at s t).next st (with_next s t ((thread_at s t).next + 1)))).lines ≡ false
       by_statement (Stmt.Print text) = refl

@@ -5,9 +5,8 @@ use Rattle.std.proofs.lemmas.List.{append-nil}
 use Rattle.rt_base.specs.declared.codes.Event.{Event}
 use Rattle.rt_base.specs.declared.codes.Halt.{Halt}
 use Rattle.rt_plain.specs.declared.line.Line.{Line}
-use Rattle.rt_plain.specs.declared.board.Arrival.{Arrival}
 use Rattle.rt_plain.specs.PlainBoard.{PlainBoard}
-use Rattle.rt_plain.specs.State.{State, Device, Nest}
+use Rattle.rt_plain.specs.State.{State, Arriving, Device, Nest}
 use Rattle.rt_plain.specs.Effects.{Effect, and_then, no_effect}
 use Rattle.rt_plain.specs.Ticks.{next_tick_state, alarms_effect, deliveries, transmissions, with_until_halt, tick_effect}
 use Rattle.rt_plain.specs.Sleeps.{Made, Same}
@@ -19,7 +18,7 @@ use Rattle.kernel_step.proofs.StepLemmas.{here}
 
 nothing-arrives : (s : State) → IsAlone s → deliveries s ≡ no_effect s
 nothing-arrives s alone =
-    subst (λ (ars : List Arrival). deliveries (record s { arrivals = ars }) ≡ no_effect (record s { arrivals = ars })) (sym alone.arrivals) refl
+    subst (λ (ars : List Arriving). deliveries (record s { arrivals = ars }) ≡ no_effect (record s { arrivals = ars })) (sym alone.arrivals) refl
 
 nothing-sent : (s : State) → IsAlone s → transmissions s ≡ no_effect s
 nothing-sent s alone =
@@ -44,9 +43,9 @@ tick_makes b s a lines alone state shown after =
     ∙ ap (λ (u : State). Made (with_until_halt b u) (alarms_effect b (next_tick_state s)).lines) (sym state)
     ∙ ap (λ (ls : List Line). Made (with_until_halt b a) ls) (sym shown)
 
--- the halt at the last tick
-pub until_is : (b : PlainBoard) (a : State) (h : Option Halt) → a.halt ≡ None → h ≡ (if a.tick == b.until then Some Halt.Until else None) → with_until_halt b a ≡ record a { halt = h }
-until_is b a h live is = by_test (a.tick == b.until) is where
+-- the halt at the last moment
+pub until_is : (b : PlainBoard) (a : State) (h : Option Halt) → a.halt ≡ None → h ≡ (if a.moment == b.until then Some Halt.Until else None) → with_until_halt b a ≡ record a { halt = h }
+until_is b a h live is = by_test (a.moment == b.until) is where
   by_test : (c : Bool) → h ≡ (if c then Some Halt.Until else None) → (if c then record a { halt = Some Halt.Until } else a) ≡ record a { halt = h }
   by_test true is = ap (λ (o : Option Halt). record a { halt = o }) (sym is)
   by_test false is = ap (λ (o : Option Halt). record a { halt = o }) (live ∙ sym is)
@@ -57,7 +56,7 @@ pub tick_gives : (k : Engine) (begun fired : KernelSeen) (halt : Option Halt) (o
     begun.board ≡ k.kernel.board → begun.state ≡ next_tick_state k.kernel.state →
     fired.board ≡ begun.board → fired.state ≡ (alarms_effect begun.board begun.state).state →
     old_lines ≡ [] → lines ≡ old_lines ++ (alarms_effect begun.board begun.state).lines →
-    IsAlone fired.state → halt ≡ (if fired.state.tick == fired.board.until then Some Halt.Until else None) →
+    IsAlone fired.state → halt ≡ (if fired.state.moment == fired.board.until then Some Halt.Until else None) →
     happens k.kernel.board (state_of k) Event.Tick ≡ Made (state_of (record { kernel = fired; halt = halt })) lines
 unfolding state_of
 tick_gives k begun fired halt old_lines lines live alone begun_board begun_state fired_board fired_state empty shown after halts =
@@ -66,4 +65,4 @@ tick_gives k begun fired halt old_lines lines live alone begun_board begun_state
     let same : alarms_effect begun.board begun.state ≡ alarms_effect b (next_tick_state s) = ap (λ (x : PlainBoard). alarms_effect x begun.state) begun_board ∙ ap (λ (x : State). alarms_effect b x) begun_state in
     ap (λ (x : State). happens b x Event.Tick) (here k live alone.halt)
     ∙ tick_makes b s fired.state lines alone (fired_state ∙ ap (λ (e : Effect). e.state) same) (shown ∙ ap (λ (ls : List Line). ls ++ (alarms_effect begun.board begun.state).lines) empty ∙ ap (λ (e : Effect). e.lines) same) after
-    ∙ ap (λ (x : State). Made x lines) (until_is b fired.state halt after.halt (halts ∙ ap (λ (x : PlainBoard). if fired.state.tick == x.until then Some Halt.Until else None) (fired_board ∙ begun_board)))
+    ∙ ap (λ (x : State). Made x lines) (until_is b fired.state halt after.halt (halts ∙ ap (λ (x : PlainBoard). if fired.state.moment == x.until then Some Halt.Until else None) (fired_board ∙ begun_board)))

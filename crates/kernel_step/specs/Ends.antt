@@ -4,7 +4,8 @@ use Rattle.rt_base.specs.declared.codes.Halt.{Halt}
 use Rattle.rt_plain.specs.declared.board.Schedule.{Schedule}
 use Rattle.rt_plain.specs.PlainBoard.{PlainBoard}
 use Rattle.rt_plain.specs.Runs.{Course, is_over, line_count, IsComplete}
-use Rattle.rt_plain.specs.Commands.{run_of}
+use Rattle.rt_plain.specs.Ends.{run_of}
+use Rattle.rt_plain.specs.Shown.{shown}
 use Rattle.rt_plain.specs.Schedules.{Place, Driven, turns, driven, begun, is_stopped, words_of_seed}
 use Rattle.kernel_step.specs.Seen.{MachineSeen}
 use Rattle.kernel_step.specs.Built.{IsBuilt}
@@ -34,7 +35,7 @@ pub record IsOnWay (b : PlainBoard) (m : MachineSeen) (left : ℕ) : Type 0 wher
 
 -- what a machine did up to its halt is a complete run of its board: each entry is what its event made, within the limits
 abbrev pub HasCompleted : PlainBoard → Course → Type 0
-HasCompleted b c = (halt : Halt) → c.halt ≡ Some halt → IsComplete b c.journal halt c.state.tick
+HasCompleted b c = (halt : Halt) → c.halt ≡ Some halt → IsComplete b c.journal halt (shown b c.state.moment)
 
 -- the run of the board meets a limit before it halts, with these numbers of entries and lines
 pub record IsLimited (b : PlainBoard) (entries lines : ℕ) : Type 0 where

@@ -1,4 +1,4 @@
--- What is left to fire of the rows that are due at a tick.
+-- What is left to fire of the rows that are due at a moment.
 use Rattle.std.specs.Prelude.{◌≡◌, ◌+◌, ◌*◌, ◌≤◌, ◌++◌, ℕ, List, length, false}
 use Rattle.rt_plain.specs.declared.line.Line.{Line}
 use Rattle.rt_plain.specs.PlainBoard.{PlainBoard}

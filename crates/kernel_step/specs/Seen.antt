@@ -34,7 +34,7 @@ did_in (Some h) answer = Halted h
 abbrev pub did_by : PlainBoard → Course → Event → Did
 did_by b c e = did_in c.halt (happens b c.state e)
 
--- an entry's tick: that before a step, and that after a tick
+-- the tick that an entry shows: that before a step, and that after a tick
 abbrev pub picked_tick : Event → ℕ → ℕ → ℕ
 picked_tick (Event.Step core) before now = before
 picked_tick Event.Tick before now = now

@@ -3,6 +3,7 @@ ghost use Rattle.rt_base.specs.declared.codes.Event.TheVariants.{Step, Tick as T
 ghost use Rattle.rt_plain.specs.State.{thread_at, running_on};
 ghost use Rattle.rt_plain.specs.Due.{due};
 ghost use Rattle.rt_plain.specs.Opening.{open_state};
+ghost use Rattle.rt_plain.specs.Shown.{shown};
 ghost use Rattle.rt_plain.specs.Schedules.{is_sleep, round_count};
 ghost use Rattle.rt_plain.specs.Sleeps.{Made, is_empty};
 ghost use Rattle.rt_plain.specs.Statements.{statement_effect};
@@ -113,11 +114,11 @@ fn core_step<L: Ledger>(kernel: &mut Kernel, out: &mut Lines, steps: &mut Steps<
     }
 }
 
-// The machine halts at the board's last tick.
+// The machine halts at the board's last moment.
 fn halt_at_end(kernel: &Kernel) -> Option<Halt>
-    ensures { result ≡ (if kernel.now.state.tick == kernel.now.board.until then Some Until else None) }
+    ensures { result ≡ (if kernel.now.state.moment == kernel.now.board.until then Some Until else None) }
 {
-    if kernel.tick() == kernel.board().until {
+    if kernel.moment() == kernel.board().until {
         Some(Halt::Until)
     } else {
         None
@@ -158,7 +159,7 @@ impl Engine {
     fn ticks<L: Ledger>(&mut self, out: &mut Lines, steps: &mut Steps<L>)
         requires live { self.old.halt ≡ None }
         requires none { due self.old.kernel.state ≡ [] }
-        requires tick { self.old.kernel.state.tick < 2 ^ 32 - 1 }
+        requires moment { self.old.kernel.state.moment < 1099511627775 }
         requires empty { out.old.items ≡ [] }
         requires room { 2 * length self.old.kernel.board.threads ≤ out.old.room }
         ensures did { happens self.old.kernel.board (state_of self.old) TickEvent ≡ Made (state_of self.new) out.new.items }
@@ -186,7 +187,7 @@ impl Engine {
         requires live { self.old.halt ≡ None }
         requires core { is_event_of self.old.kernel.board event.now ≡ true }
         requires none { due (state_of self.old) ≡ [] }
-        requires tick { (state_of self.old).tick < 2 ^ 32 - 1 }
+        requires moment { (state_of self.old).moment < 1099511627775 }
         requires number { (state_of self.old).numbers + 2 < 2 ^ 64 }
         requires empty { out.old.items ≡ [] }
         requires room { 2 * length self.old.kernel.board.threads + 2 ≤ out.old.room }
@@ -211,10 +212,18 @@ impl Engine {
         self.kernel.board()
     }
 
-    /// The tick of now.
+    /// The moment of now: how many ticks have passed since opening.
+    #[tactic(auto, unfolding(crate::specs::Whole::state_of))]
+    pub(crate) fn moment(&self) -> u64
+        ensures { result ≡ (state_of self.now).moment }
+    {
+        self.kernel.moment()
+    }
+
+    /// The tick that is shown now.
     #[tactic(auto, unfolding(crate::specs::Whole::state_of))]
     pub(crate) fn tick(&self) -> u32
-        ensures { result ≡ (state_of self.now).tick }
+        ensures { result ≡ shown self.now.kernel.board (state_of self.now).moment }
     {
         self.kernel.tick()
     }

@@ -6,6 +6,7 @@ ghost use Rattle.rt_base.specs.declared.codes.Event.{Event as Occurrence};
 ghost use Rattle.rt_plain.specs.declared.line.Line.{Line};
 ghost use Rattle.rt_plain.specs.State.{State};
 ghost use Rattle.rt_plain.specs.Due.{due};
+ghost use Rattle.rt_plain.specs.Shown.{shown};
 ghost use Rattle.rt_plain.specs.Sleeps.{Made};
 ghost use Rattle.rt_plain.specs.Steps.{happens};
 ghost use Rattle.kernel_step.specs.Built.{IsBuilt, is_built};
@@ -87,7 +88,7 @@ fn room_for(board: &Board) -> usize
     (threads + 1) * (2 * threads + 4) + 305
 }
 
-// The tick of an entry: that before a step, and that after a tick.
+// The tick that an entry shows: that before a step, and that after a tick.
 fn tick_for(event: &Event, before: u32, now: u32) -> u32
     ensures { result ≡ picked_tick event.now before now }
 {
@@ -156,13 +157,13 @@ impl Machine {
         self.journal.reserve(1, room)
     }
 
-    // What the run so far says of the next event: no row is due, the last tick is ahead, numbers are small, and its
+    // What the run so far says of the next event: no row is due, the last moment is ahead, numbers are small, and its
     // lines fit.
     #[tactic(auto, using(crate::proofs::MachineLemmas::on_way))]
     fn is_on_way(&self)
         requires live { self.now.course.halt ≡ None }
         ensures none { due self.now.course.state ≡ [] }
-        ensures tick { self.now.course.state.tick < 2 ^ 32 - 1 }
+        ensures moment { self.now.course.state.moment < 1099511627775 }
         ensures number { self.now.course.state.numbers + 2 < 2 ^ 64 }
         ensures lines { (event : Occurrence) (new : State) (lines : List Line) → happens self.now.board self.now.course.state event ≡ Made new lines → length lines ≤ room self.now.board }
     {
@@ -239,9 +240,16 @@ impl Machine {
         self.halt
     }
 
-    /// The tick of now.
+    /// The moment of now: how many ticks have passed since opening, at most 1099511627775.
+    pub fn moment(&self) -> u64
+        ensures { result ≡ self.now.course.state.moment }
+    {
+        self.engine.moment()
+    }
+
+    /// The tick that is shown now: the board's first one and the moment, modulo 4294967296.
     pub fn tick(&self) -> u32
-        ensures { result ≡ self.now.course.state.tick }
+        ensures { result ≡ shown self.now.board self.now.course.state.moment }
     {
         self.engine.tick()
     }

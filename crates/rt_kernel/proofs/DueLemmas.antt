@@ -19,11 +19,11 @@ head-put row (r ∷ rs) = by_test (nat_lt row.number r.number) where
   by_test true = refl
   by_test false = refl
 
-head-due : (tick : ℕ) (rows : List (ArmedRow Alarm)) → head_row (due_rows_at tick rows) ≡ least_due tick rows
-head-due tick [] = refl
-head-due tick (row ∷ rows) = by_test (row.due == tick) (head-due tick rows) where
-  by_test : (c : Bool) → head_row (due_rows_at tick rows) ≡ least_due tick rows → head_row (by_number (cond c (row ∷ filter (λ r. r.due == tick) rows) (filter (λ r. r.due == tick) rows))) ≡ (if c then Some (earlier row (least_due tick rows)) else least_due tick rows)
-  by_test true same = head-put row (due_rows_at tick rows) ∙ ap (λ (o : Option (ArmedRow Alarm)). Some (earlier row o)) same
+head-due : (moment : ℕ) (rows : List (ArmedRow Alarm)) → head_row (due_rows_at moment rows) ≡ least_due moment rows
+head-due moment [] = refl
+head-due moment (row ∷ rows) = by_test (row.due == moment) (head-due moment rows) where
+  by_test : (c : Bool) → head_row (due_rows_at moment rows) ≡ least_due moment rows → head_row (by_number (cond c (row ∷ filter (λ r. r.due == moment) rows) (filter (λ r. r.due == moment) rows))) ≡ (if c then Some (earlier row (least_due moment rows)) else least_due moment rows)
+  by_test true same = head-put row (due_rows_at moment rows) ∙ ap (λ (o : Option (ArmedRow Alarm)). Some (earlier row o)) same
   by_test false same = same
 
 first-head : (rows : List (ArmedRow Alarm)) → first_alarm rows ≡ option_map (λ (row : ArmedRow Alarm). row.alarm) (head_row rows)
@@ -31,13 +31,13 @@ first-head [] = refl
 first-head (row ∷ rows) = refl
 
 -- the alarm that fires first
-pub first_due_is : (tick : ℕ) (rows : List (ArmedRow Alarm)) → first_alarm (due_rows_at tick rows) ≡ option_map (λ (row : ArmedRow Alarm). row.alarm) (least_due tick rows)
-first_due_is tick rows = first-head (due_rows_at tick rows) ∙ ap (option_map (λ (row : ArmedRow Alarm). row.alarm)) (head-due tick rows)
+pub first_due_is : (moment : ℕ) (rows : List (ArmedRow Alarm)) → first_alarm (due_rows_at moment rows) ≡ option_map (λ (row : ArmedRow Alarm). row.alarm) (least_due moment rows)
+first_due_is moment rows = first-head (due_rows_at moment rows) ∙ ap (option_map (λ (row : ArmedRow Alarm). row.alarm)) (head-due moment rows)
 
 -- one more row, from the end on
-pub due_more : (tick i : ℕ) (rows : List Armed) (d : Armed) → i < length rows → least_due tick (map plain_armed (drop i rows)) ≡ (if (plain_armed (get_or rows i d)).due == tick then Some (earlier (plain_armed (get_or rows i d)) (least_due tick (map plain_armed (drop (i + 1) rows)))) else least_due tick (map plain_armed (drop (i + 1) rows)))
-due_more tick i rows d there = subst (λ n. least_due tick (map plain_armed (drop i rows)) ≡ (if (plain_armed (get_or rows i d)).due == tick then Some (earlier (plain_armed (get_or rows i d)) (least_due tick (map plain_armed (drop n rows)))) else least_due tick (map plain_armed (drop n rows)))) (sym (add-one i)) (more i rows there) where
-  more : (i : ℕ) (rows : List Armed) → i < length rows → least_due tick (map plain_armed (drop i rows)) ≡ (if (plain_armed (get_or rows i d)).due == tick then Some (earlier (plain_armed (get_or rows i d)) (least_due tick (map plain_armed (drop (suc i) rows)))) else least_due tick (map plain_armed (drop (suc i) rows)))
+pub due_more : (moment i : ℕ) (rows : List Armed) (d : Armed) → i < length rows → least_due moment (map plain_armed (drop i rows)) ≡ (if (plain_armed (get_or rows i d)).due == moment then Some (earlier (plain_armed (get_or rows i d)) (least_due moment (map plain_armed (drop (i + 1) rows)))) else least_due moment (map plain_armed (drop (i + 1) rows)))
+due_more moment i rows d there = subst (λ n. least_due moment (map plain_armed (drop i rows)) ≡ (if (plain_armed (get_or rows i d)).due == moment then Some (earlier (plain_armed (get_or rows i d)) (least_due moment (map plain_armed (drop n rows)))) else least_due moment (map plain_armed (drop n rows)))) (sym (add-one i)) (more i rows there) where
+  more : (i : ℕ) (rows : List Armed) → i < length rows → least_due moment (map plain_armed (drop i rows)) ≡ (if (plain_armed (get_or rows i d)).due == moment then Some (earlier (plain_armed (get_or rows i d)) (least_due moment (map plain_armed (drop (suc i) rows)))) else least_due moment (map plain_armed (drop (suc i) rows)))
   more i [] lt = absurd (omega (arith, lt))
   more zero (row ∷ rows) lt = refl
   more (suc i) (row ∷ rows) lt = more i rows (omega (arith, lt))

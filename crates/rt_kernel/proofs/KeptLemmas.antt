@@ -25,16 +25,16 @@ use Rattle.rt_kernel.specs.Due.{first_alarm}
 use Rattle.rt_kernel.specs.Inside.{frame_of}
 use Rattle.rt_kernel.specs.Switched.{switched, switched_by, effect_or, preempt_effect, AreNumbers}
 
--- what holds under any frame holds of now
-pub loosened : (f : Frame) (s : State) → Kept f s → s.tick ≤ f.low → Kept (frame_of f.board s) s
-loosened f s kept low = record {
-  tick_is = refl;
-  live = λ some on. omega arith;
+-- what holds under any frame that doesn't end later holds of now
+pub loosened : (f : Frame) (s : State) → Kept f s → s.moment ≤ f.low → f.latest ≤ 1099511627775 → Kept (frame_of f.board s) s
+loosened f s kept low ends = record {
+  moment_is = refl;
+  live = λ some on. omega (arith, kept.live some on, ends);
   ends = kept.ends;
   count = kept.count;
   cores = kept.cores;
   placed = kept.placed;
-  rows = all-weaker (IsRowKept f.low s.threads) (IsRowKept s.tick s.threads) s.armed (λ row is. (omega (arith, low, is.0), is.1)) kept.rows;
+  rows = all-weaker (IsRowKept f.low s.threads) (IsRowKept s.moment s.threads) s.armed (λ row is. (omega (arith, low, is.0), is.1)) kept.rows;
   due_few = omega arith;
   single = kept.single;
   owned = kept.owned;
@@ -43,9 +43,9 @@ loosened f s kept low = record {
   timers_fine = kept.timers_fine;
 }
 
--- the same for an action that was made under the frame of a state, whose tick stays
+-- the same for an action that was made under the frame of a state, whose moment stays
 pub still-now : (b : PlainBoard) (s new : State) → Kept (frame_of b s) new → Kept (frame_of b new) new
-still-now b s new kept = loosened (frame_of b s) new kept (omega (arith, kept.tick_is))
+still-now b s new kept = loosened (frame_of b s) new kept (omega (arith, kept.moment_is)) (omega arith)
 
 -- the ready threads are there
 ready-there : (f : Frame) (s : State) → Kept f s → AllByRecursion (λ t. t < length s.threads) s.ready
@@ -146,13 +146,13 @@ put-some row (r ∷ rs) e = by_test (nat_lt row.number r.number) e where
   by_test true e = cc
   by_test false e = cc
 
-none-due : (tick : ℕ) (rows : List (ArmedRow Alarm)) → due_rows_at tick rows ≡ [] → AllByRecursion (λ (row : ArmedRow Alarm). row.due ≢ tick) rows
-none-due tick [] none = tt
-none-due tick (row ∷ rows) none = by_test (row.due == tick) refl none (none-due tick rows) where
-  by_test : (c : Bool) → (row.due == tick) ≡ c → by_number (cond c (row ∷ filter (λ (r : ArmedRow Alarm). r.due == tick) rows) (filter (λ (r : ArmedRow Alarm). r.due == tick) rows)) ≡ [] → (due_rows_at tick rows ≡ [] → AllByRecursion (λ (r : ArmedRow Alarm). r.due ≢ tick) rows) → AllByRecursion (λ (r : ArmedRow Alarm). r.due ≢ tick) (row ∷ rows)
-  by_test true is e rest = absurd (put-some row (due_rows_at tick rows) e)
-  by_test false is e rest = ((λ same. apart is (eq-eqb row.due tick same)), rest e) where
-    apart : eqb row.due tick ≡ false → eqb row.due tick ≡ true → ⊥
+none-due : (moment : ℕ) (rows : List (ArmedRow Alarm)) → due_rows_at moment rows ≡ [] → AllByRecursion (λ (row : ArmedRow Alarm). row.due ≢ moment) rows
+none-due moment [] none = tt
+none-due moment (row ∷ rows) none = by_test (row.due == moment) refl none (none-due moment rows) where
+  by_test : (c : Bool) → (row.due == moment) ≡ c → by_number (cond c (row ∷ filter (λ (r : ArmedRow Alarm). r.due == moment) rows) (filter (λ (r : ArmedRow Alarm). r.due == moment) rows)) ≡ [] → (due_rows_at moment rows ≡ [] → AllByRecursion (λ (r : ArmedRow Alarm). r.due ≢ moment) rows) → AllByRecursion (λ (r : ArmedRow Alarm). r.due ≢ moment) (row ∷ rows)
+  by_test true is e rest = absurd (put-some row (due_rows_at moment rows) e)
+  by_test false is e rest = ((λ same. apart is (eq-eqb row.due moment same)), rest e) where
+    apart : eqb row.due moment ≡ false → eqb row.due moment ≡ true → ⊥
     apart no_case yes_case = clash (sym no_case ∙ yes_case) where
       clash : false ≡ true → ⊥
       clash e = cc
@@ -161,21 +161,21 @@ both : {A : Type 0} (P Q R : A → Type 0) → ((x : A) → P x → Q x → R x)
 both P Q R f [] p q = tt
 both P Q R f (x ∷ xs) p q = (f x p.0 q.0, both P Q R f xs p.1 q.1)
 
--- the tick rises where nothing is due any more
-pub begun-kept : (b : PlainBoard) (s : State) → due s ≡ [] → Kept (frame_of b s) s → Kept (frame_of b (next_tick_state s)) (next_tick_state s)
-begun-kept b s none kept = loosened next (next_tick_state s) after (omega (arith, after.tick_is)) where
+-- the moment grows where nothing is due any more, and it isn't the last one
+pub begun-kept : (b : PlainBoard) (s : State) → due s ≡ [] → s.moment < 1099511627775 → Kept (frame_of b s) s → Kept (frame_of b (next_tick_state s)) (next_tick_state s)
+begun-kept b s none early kept = loosened next (next_tick_state s) after (omega (arith, after.moment_is)) (omega (arith, early)) where
   next : Frame
-  next = record { board = b; now = s.tick + 1; low = s.tick + 1; few = tally (λ (row : ArmedRow Alarm). eqb row.due (s.tick + 1)) s.armed; latest = s.tick + 1; fits = less-fits (s.tick + 1) }
+  next = record { board = b; now = s.moment + 1; low = s.moment + 1; few = tally (λ (row : ArmedRow Alarm). eqb row.due (s.moment + 1)) s.armed; latest = 1099511627775; fits = less-fits (s.moment + 1) }
 
-  risen : Kept next (record s { tick = s.tick + 1 })
+  risen : Kept next (record s { moment = s.moment + 1 })
   risen = record {
-    tick_is = refl;
-    live = λ some on. omega arith;
+    moment_is = refl;
+    live = λ some on. omega (arith, early);
     ends = kept.ends;
     count = kept.count;
     cores = kept.cores;
     placed = kept.placed;
-    rows = both (IsRowKept s.tick s.threads) (λ (row : ArmedRow Alarm). row.due ≢ s.tick) (IsRowKept (s.tick + 1) s.threads) (λ row is later. (omega (arith, is.0, later), is.1)) s.armed kept.rows (none-due s.tick s.armed none);
+    rows = both (IsRowKept s.moment s.threads) (λ (row : ArmedRow Alarm). row.due ≢ s.moment) (IsRowKept (s.moment + 1) s.threads) (λ row is later. (omega (arith, is.0, later), is.1)) s.armed kept.rows (none-due s.moment s.armed none);
     due_few = omega arith;
     single = kept.single;
     owned = kept.owned;
@@ -189,7 +189,7 @@ begun-kept b s none kept = loosened next (next_tick_state s) after (omega (arith
   used u (Some t) k = thread-kept next u t (thread_after_slice (thread_at u t)) (slice-fine b (thread_at u t)).0 ((slice-fine b (thread_at u t)).1 (fine-at next u t k)) k
 
   after : Kept next (next_tick_state s)
-  after = fold-kept next with_slice_used used s.running (record s { tick = s.tick + 1 }) risen
+  after = fold-kept next with_slice_used used s.running (record s { moment = s.moment + 1 }) risen
 
 -- how many rows are due
 number-length : {A : Type 0} (rows : List (ArmedRow A)) → length (by_number rows) ≡ length rows
@@ -202,16 +202,16 @@ number-length (row ∷ rows) = put-length row (by_number rows) ∙ ap suc (numbe
     by_test true same = refl
     by_test false same = ap suc same
 
-due-tally : (tick : ℕ) (rows : List (ArmedRow Alarm)) → length (due_rows_at tick rows) ≡ tally (λ (row : ArmedRow Alarm). eqb row.due tick) rows
-due-tally tick rows = number-length (filter (λ (row : ArmedRow Alarm). eqb row.due tick) rows) ∙ filter-length (λ (row : ArmedRow Alarm). eqb row.due tick) rows
+due-tally : (moment : ℕ) (rows : List (ArmedRow Alarm)) → length (due_rows_at moment rows) ≡ tally (λ (row : ArmedRow Alarm). eqb row.due moment) rows
+due-tally moment rows = number-length (filter (λ (row : ArmedRow Alarm). eqb row.due moment) rows) ∙ filter-length (λ (row : ArmedRow Alarm). eqb row.due moment) rows
 
 -- dropping the rows of an alarm leaves no more due rows
 pub due-dropped : (s : State) (alarm : Alarm) → length (due (without_alarm s alarm)) ≤ length (due s)
-due-dropped s alarm = omega (arith, due-tally s.tick s.armed, due-tally s.tick (without_alarm s alarm).armed, tally-filter (λ (row : ArmedRow Alarm). eqb row.due s.tick) (λ (r : ArmedRow Alarm). not (is_alarm alarm r.alarm)) s.armed)
+due-dropped s alarm = omega (arith, due-tally s.moment s.armed, due-tally s.moment (without_alarm s alarm).armed, tally-filter (λ (row : ArmedRow Alarm). eqb row.due s.moment) (λ (r : ArmedRow Alarm). not (is_alarm alarm r.alarm)) s.armed)
 
 -- no more rows are due than there are threads, where there are no timers
 pub due-few : (f : Frame) (s : State) → Kept f s → s.timers ≡ [] → length (due s) ≤ length s.threads
-due-few f s kept none = omega (arith, due-tally s.tick s.armed, tally-length (λ (row : ArmedRow Alarm). eqb row.due s.tick) s.armed, armed-few f s kept, ap length none)
+due-few f s kept none = omega (arith, due-tally s.moment s.armed, tally-length (λ (row : ArmedRow Alarm). eqb row.due s.moment) s.armed, armed-few f s kept, ap length none)
 
 some-alarm : (a c : Alarm) → Some a ≡ Some c → a ≡ c
 some-alarm a c e = cc
@@ -224,5 +224,5 @@ first-due f s t kept first = by_rows (due s) refl (due-rows f s kept) first wher
   by_rows (row ∷ rows) is all first =
       let same : row.alarm ≡ OfThread t = some-alarm row.alarm (OfThread t) first in
       let drops : DropsOne f.now s.armed row = all.0.drops in
-      let dropped : tally (λ (r : ArmedRow Alarm). eqb r.due s.tick) (without_alarm s (OfThread t)).armed + 1 ≤ tally (λ (r : ArmedRow Alarm). eqb r.due s.tick) s.armed = subst (λ (a : Alarm). tally (λ (r : ArmedRow Alarm). eqb r.due s.tick) (without_alarm s a).armed + 1 ≤ tally (λ (r : ArmedRow Alarm). eqb r.due s.tick) s.armed) same (subst (λ n. tally (λ (r : ArmedRow Alarm). eqb r.due n) (without_alarm s row.alarm).armed + 1 ≤ tally (λ (r : ArmedRow Alarm). eqb r.due n) s.armed) (sym kept.tick_is) drops) in
-      (subst (IsWaited s.threads) same all.0.waits, omega (arith, due-tally s.tick s.armed, due-tally s.tick (without_alarm s (OfThread t)).armed, dropped))
+      let dropped : tally (λ (r : ArmedRow Alarm). eqb r.due s.moment) (without_alarm s (OfThread t)).armed + 1 ≤ tally (λ (r : ArmedRow Alarm). eqb r.due s.moment) s.armed = subst (λ (a : Alarm). tally (λ (r : ArmedRow Alarm). eqb r.due s.moment) (without_alarm s a).armed + 1 ≤ tally (λ (r : ArmedRow Alarm). eqb r.due s.moment) s.armed) same (subst (λ n. tally (λ (r : ArmedRow Alarm). eqb r.due n) (without_alarm s row.alarm).armed + 1 ≤ tally (λ (r : ArmedRow Alarm). eqb r.due n) s.armed) (sym kept.moment_is) drops) in
+      (subst (IsWaited s.threads) same all.0.waits, omega (arith, due-tally s.moment s.armed, due-tally s.moment (without_alarm s (OfThread t)).armed, dropped))

@@ -41,7 +41,7 @@ quiet-given flags w s free =
 quiet-first_wait : (s : State) (t core : ℕ) (call : Call) (timeout : Option ℕ) (code : Code) → IsFree s → IsQuietCall s (first_wait_outcome s t core call timeout code)
 quiet-first_wait s t core call None code free = quiet-wait s t core (InCall call) None free
 quiet-first_wait s t core call (Some zero) code free = quiet-self s free
-quiet-first_wait s t core call (Some (suc n)) code free = quiet-wait s t core (InCall call) (Some (s.tick + suc n)) free
+quiet-first_wait s t core call (Some (suc n)) code free = quiet-wait s t core (InCall call) (Some (s.moment + suc n)) free
 
 pub quiet-sem_create : (b : PlainBoard) (s : State) (name : List ℕ) (value : ℕ) (order : WaitOrder) → IsFree s → IsQuietCall s (sem_create b name value order s)
 quiet-sem_create b s name value order free =

@@ -55,12 +55,12 @@ abbrev pub first_ready : List Thread → List ℕ
 first_ready threads = filter (λ t. not (is_initial (row_at threads t).stage)) (range_with_len 0 (length threads))
 
 -- the records of a board before the first statement, by what they stand for
-pub opened : (b : PlainBoard) (k : Records) → IsBuilt b → k.tick ≡ 0 → k.numbers ≡ 0 → k.tables ≡ first_tables b → k.ready ≡ first_ready (map new_script_thread b.threads) → k.running ≡ None → k.armed ≡ [] → state_of k ≡ open_state b
+pub opened : (b : PlainBoard) (k : Records) → IsBuilt b → k.moment ≡ 0 → k.numbers ≡ 0 → k.tables ≡ first_tables b → k.ready ≡ first_ready (map new_script_thread b.threads) → k.running ≡ None → k.armed ≡ [] → state_of k ≡ open_state b
 unfolding open_state
-opened b k built tick numbers tables ready running armed = rw (tick, numbers, tables, ready, running, armed, built.shell, built.mutexes, built.mailboxes, built.queues, built.devices, built.timers, built.arrivals, built.cores) refl
+opened b k built moment numbers tables ready running armed = rw (moment, numbers, tables, ready, running, armed, built.shell, built.soft, built.mutexes, built.mailboxes, built.queues, built.pools, built.devices, built.timers, built.arrivals, built.cores) refl
 
 pub opened_kept : (b : PlainBoard) (s : State) → IsBuilt b → s ≡ open_state b → Kept (frame_of b s) s
-opened_kept b s built is = subst (λ (u : State). Kept (frame_of b u) u) (sym is) (loosened (still b 0) (open_state b) kept (omega (arith, kept.tick_is))) where
+opened_kept b s built is = subst (λ (u : State). Kept (frame_of b u) u) (sym is) (loosened (still b 0) (open_state b) kept (omega (arith, kept.moment_is)) (omega (arith, built.latest))) where
   kept : Kept (still b 0) (open_state b)
   kept = opened-kept b (proper b built)
 

@@ -21,7 +21,7 @@ settles b s t call free quiet = call_settles b s t ((thread_at s t).next + 1) (L
 
 -- a call that is built settles to what the code does
 pub own_settles : (b : PlainBoard) (s : State) (t : ℕ) (call : Call) → is_built_call call ≡ true → IsFree s → settled_effect b s (next_call b t call s) ≡ own_effect b t (thread_at s t).next call (begun s t)
-own_settles b s t (Call.Delay ticks) built free = settles b s t (Call.Delay ticks) free (quiet-wait (begun s t) t 0 (InCall (Call.Delay ticks)) (Some ((begun s t).tick + ticks)) free)
+own_settles b s t (Call.Delay ticks) built free = settles b s t (Call.Delay ticks) free (quiet-wait (begun s t) t 0 (InCall (Call.Delay ticks)) (Some ((begun s t).moment + ticks)) free)
 own_settles b s t Call.Yield built free = settles b s t Call.Yield free (quiet-yield (begun s t) t 0 free)
 own_settles b s t (Call.Startup name) built free = settles b s t (Call.Startup name) free (quiet-startup (begun s t) name free)
 own_settles b s t (Call.Suspend name) built free = settles b s t (Call.Suspend name) free (quiet-suspend (begun s t) name (ByThread t 0) free)

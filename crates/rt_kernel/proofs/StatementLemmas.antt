@@ -9,8 +9,9 @@ use Rattle.rt_plain.specs.State.{State, Thread, Retry, no_thread, thread_at}
 use Rattle.rt_plain.specs.Effects.{Effect}
 use Rattle.rt_plain.specs.Outcome.{ByThread, First}
 use Rattle.rt_plain.specs.Calls.{outcome_of, settled_effect}
-use Rattle.rt_plain.specs.Statements.{script_of, statement_at, statement_effect, script_effect, done_effect, call_effect}
+use Rattle.rt_plain.specs.Statements.{script_of, statement_at, statement_effect, script_effect, is_soft_thread, done_effect, call_effect}
 use Rattle.rt_plain.specs.Shell.{shell_effect}
+use Rattle.rt_plain.specs.SoftTurn.{soft_effect}
 use Rattle.rt_plain.proofs.TallyLemmas.{same-set}
 use Rattle.rt_kernel.specs.Own.{begun, next_call}
 use Rattle.rt_kernel.specs.Plain.{is_plain, plain_did}
@@ -23,22 +24,24 @@ pub first_core : (o : Option ℕ) (core t : ℕ) → slice_index_or (o ∷ []) c
 first_core o zero t runs = (refl, runs)
 first_core o (suc core) t runs = absurd cc
 
-abbrev by_shell : PlainBoard → ℕ → ℕ → State → Bool → Option Retry → Effect
-by_shell b t core s c retry = settled_effect b s (if c then shell_effect b t s else script_effect b t core retry s)
+-- the statement of a thread, by whether it is the shell's or that of soft timers
+abbrev by_owner : PlainBoard → ℕ → ℕ → State → Bool → Bool → Option Retry → Effect
+by_owner b t core s shell soft retry = settled_effect b s (if shell then shell_effect b t s else if soft then soft_effect b t s else script_effect b t core retry s)
 
--- a thread without a call to make again, on a board without a shell
-scripted : (b : PlainBoard) (s : State) (t core : ℕ) (st : Stmt) → b.shell ≡ None → (thread_at s t).retry ≡ None → statement_at (script_of b (thread_at s t).name) (thread_at s t).next ≡ st
+-- a thread without a call to make again, on a board whose threads all have scripts
+scripted : (b : PlainBoard) (s : State) (t core : ℕ) (st : Stmt) → b.shell ≡ None → b.soft ≡ None → (thread_at s t).retry ≡ None → statement_at (script_of b (thread_at s t).name) (thread_at s t).next ≡ st
     → statement_effect b t core s ≡ settled_effect b s (done_effect b t core (thread_at s t).name (thread_at s t).next st (begun s t))
-scripted b s t core st shell retry is =
-    ap (λ (o : Option ℕ). by_shell b t core s (is_some o && eqb t 0) (thread_at s t).retry) shell
-    ∙ ap (by_shell b t core s false) retry
+scripted b s t core st shell soft retry is =
+    ap (λ (o : Option ℕ). by_owner b t core s (is_some o && eqb t 0) (is_soft_thread b t) (thread_at s t).retry) shell
+    ∙ ap (λ (o : Option ℕ). by_owner b t core s false (is_some o && eqb t (if is_some b.shell then 1 else 0)) (thread_at s t).retry) soft
+    ∙ ap (by_owner b t core s false false) retry
     ∙ ap (λ (x : Stmt). settled_effect b s (done_effect b t core (thread_at s t).name (thread_at s t).next x (begun s t))) is
 
 -- a call
-pub call_is : (b : PlainBoard) (s : State) (t core : ℕ) (call : Call) → b.shell ≡ None → core ≡ 0 → (thread_at s t).retry ≡ None → statement_at (script_of b (thread_at s t).name) (thread_at s t).next ≡ Stmt.Do call → statement_effect b t core s ≡ settled_effect b s (next_call b t call s)
-call_is b s t core call shell first retry is =
+pub call_is : (b : PlainBoard) (s : State) (t core : ℕ) (call : Call) → b.shell ≡ None → b.soft ≡ None → core ≡ 0 → (thread_at s t).retry ≡ None → statement_at (script_of b (thread_at s t).name) (thread_at s t).next ≡ Stmt.Do call → statement_effect b t core s ≡ settled_effect b s (next_call b t call s)
+call_is b s t core call shell soft first retry is =
     ap (λ n. statement_effect b t n s) first
-    ∙ scripted b s t 0 (Stmt.Do call) shell retry is
+    ∙ scripted b s t 0 (Stmt.Do call) shell soft retry is
     ∙ ap (λ (name : List ℕ). settled_effect b s (call_effect t (Line.Done name (thread_at s t).next) (outcome_of b call (begun s t) (ByThread t 0) First))) (sym (same-set (λ (row : Thread). row.name) s.threads t t (record (thread_at s t) { next = (thread_at s t).next + 1 }) no_thread refl))
 
 -- a statement that is no call
@@ -52,9 +55,9 @@ done-plain b s t core (Stmt.Next k) is = refl
 done-plain b s t core Stmt.Exit is = refl
 done-plain b s t core (Stmt.Do call) is = absurd cc
 
-pub plain_is : (b : PlainBoard) (s : State) (t core : ℕ) (st : Stmt) → IsFree s → b.shell ≡ None → is_plain st ≡ true → (thread_at s t).retry ≡ None → statement_at (script_of b (thread_at s t).name) (thread_at s t).next ≡ st → statement_effect b t core s ≡ plain_did (script_of b (thread_at s t).name) t st s
-plain_is b s t core st free shell plain retry is =
+pub plain_is : (b : PlainBoard) (s : State) (t core : ℕ) (st : Stmt) → IsFree s → b.shell ≡ None → b.soft ≡ None → is_plain st ≡ true → (thread_at s t).retry ≡ None → statement_at (script_of b (thread_at s t).name) (thread_at s t).next ≡ st → statement_effect b t core s ≡ plain_did (script_of b (thread_at s t).name) t st s
+plain_is b s t core st free shell soft plain retry is =
     let script : List Stmt = script_of b (thread_at s t).name in
     let did : Effect = plain_did script t st s in
     let quiet : IsQuiet s did.state = quiet-then s (begun s t) did.state (quiet-row s t (record (thread_at s t) { next = (thread_at s t).next + 1 }) free refl) (quiet-plain script (begun s t) t st free) in
-    scripted b s t core st shell retry is ∙ ap (settled_effect b s) (done-plain b s t core st plain) ∙ settled-kept b s did free quiet.free quiet.bases quiet.votes
+    scripted b s t core st shell soft retry is ∙ ap (settled_effect b s) (done-plain b s t core st plain) ∙ settled-kept b s did free quiet.free quiet.bases quiet.votes

@@ -8,10 +8,10 @@ abbrev pub earlier : ArmedRow Alarm → Option (ArmedRow Alarm) → ArmedRow Ala
 earlier row None = row
 earlier row (Some other) = if nat_lt row.number other.number then row else other
 
--- the row with the least number of those that are due at a tick
+-- the row with the least number of those that are due at a moment
 abbrev pub least_due : ℕ → List (ArmedRow Alarm) → Option (ArmedRow Alarm)
-least_due tick [] = None
-least_due tick (row ∷ rows) = if row.due == tick then Some (earlier row (least_due tick rows)) else least_due tick rows
+least_due moment [] = None
+least_due moment (row ∷ rows) = if row.due == moment then Some (earlier row (least_due moment rows)) else least_due moment rows
 
 -- the alarm of the first of some rows
 abbrev pub first_alarm : List (ArmedRow Alarm) → Option Alarm

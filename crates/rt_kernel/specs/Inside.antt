@@ -10,9 +10,9 @@ use Rattle.rt_kernel.specs.Built.{IsBuilt}
 use Rattle.rt_kernel.specs.Limits.{limits_of, board_limits}
 use Rattle.rt_kernel.specs.View.{state_of}
 
--- now, with what is due now
+-- now, with what is due now. No moment is later than the last one that a board may have
 abbrev pub frame_of : PlainBoard → State → Frame
-frame_of b s = record { board = b; now = s.tick; low = s.tick; few = tally (λ row. eqb row.due s.tick) s.armed; latest = s.tick; fits = less-fits s.tick }
+frame_of b s = record { board = b; now = s.moment; low = s.moment; few = tally (λ row. eqb row.due s.moment) s.armed; latest = 1099511627775; fits = less-fits s.moment }
 
 -- the board is built, there is room for as many objects as it says, and what the rules of the kernel keep holds of the state
 pub record IsKernel (k : Inside) : Type 0 where

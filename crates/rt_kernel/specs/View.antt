@@ -8,7 +8,7 @@ use Rattle.rt_kernel.specs.declared.records.Records.{Records}
 -- the state
 abbrev pub state_of : Records → State
 state_of k = record {
-  tick = k.tick;
+  moment = k.moment;
   numbers = k.numbers;
   threads = k.tables.threads;
   sems = k.tables.sems;
@@ -17,11 +17,13 @@ state_of k = record {
   holdings = [];
   mailboxes = [];
   queues = [];
+  pools = [];
   timers = [];
   devices = new_console ∷ [];
   ready = k.ready;
   running = k.running ∷ [];
   armed = k.armed;
+  works = [];
   votes = replicate 6 0;
   run_mode = RunMode.Normal;
   nest = None;

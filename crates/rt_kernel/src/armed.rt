@@ -10,7 +10,7 @@ use rt_base::ThreadNo;
 use std::alloc::{AllocError, Global};
 use std::marker::Model;
 
-/// When the wait of a thread ends, and its start number.
+/// The moment at which the wait of a thread ends, in ticks since opening, and its start number.
 #[derive(Clone, Copy)]
 pub struct Armed {
     pub due: u64,
@@ -43,17 +43,17 @@ fn earlier(row: Armed, other: Option<Armed>) -> Armed
     }
 }
 
-// The row with the least number of those that are due at a tick.
+// The row with the least number of those that are due at a moment.
 #[tactic(auto, using(crate::proofs::DueLemmas::dues))]
-fn least_due(rows: &[Armed], tick: u64) -> Option<Armed>
-    ensures { option_map plain_armed result ≡ least_due tick (map plain_armed rows.now) }
+fn least_due(rows: &[Armed], moment: u64) -> Option<Armed>
+    ensures { option_map plain_armed result ≡ least_due moment (map plain_armed rows.now) }
 {
     let mut first = None;
     let mut i = rows.len();
     while i > 0 {
         i -= 1;
         let row = rows[i];
-        if row.due == tick {
+        if row.due == moment {
             first = Some(earlier(row, first));
         }
     }
@@ -110,11 +110,11 @@ impl ArmedRows {
         self.items.is_empty()
     }
 
-    // The thread whose row fires first of those due at a tick: the one with the least start number.
-    pub fn first_due(&self, tick: u64) -> Option<ThreadNo>
-        ensures { option_map OfThread result ≡ option_map (λ row. row.alarm) (least_due tick self.now) }
+    // The thread whose row fires first of those due at a moment: the one with the least start number.
+    pub fn first_due(&self, moment: u64) -> Option<ThreadNo>
+        ensures { option_map OfThread result ≡ option_map (λ row. row.alarm) (least_due moment self.now) }
     {
-        let row = least_due(&self.items, tick)?;
+        let row = least_due(&self.items, moment)?;
         Some(row.thread)
     }
 }

@@ -23,6 +23,7 @@ impl Records {
         requires ready { length self.old.ready ≤ 256 }
         requires once { (u : ℕ) → length (filter (λ v. v == u) self.old.ready) ≤ 1 }
         requires armed { length self.old.armed ≤ 256 }
+        requires moment { self.old.moment ≤ 1099511627775 }
         requires number { self.old.numbers + 2 < 2 ^ 64 }
         requires lines { length out.old.items + 2 + length self.old.tables.threads ≤ out.old.room }
         ensures state { state_of self.new ≡ (own_effect board.now t k call.now (state_of self.old)).state }
@@ -74,6 +75,7 @@ impl Records {
         requires ready { length self.old.ready ≤ 256 }
         requires once { (u : ℕ) → length (filter (λ v. v == u) self.old.ready) ≤ 1 }
         requires armed { length self.old.armed ≤ 256 }
+        requires moment { self.old.moment ≤ 1099511627775 }
         requires number { self.old.numbers + 2 < 2 ^ 64 }
         requires lines { length out.old.items + 2 + length self.old.tables.threads ≤ out.old.room }
         ensures state { state_of self.new ≡ (settled_effect board.now (state_of self.old) (next_call board.now t call.now (state_of self.old))).state }

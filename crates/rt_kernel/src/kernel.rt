@@ -1,5 +1,6 @@
 ghost use Rattle.std.specs.Prelude.{◌≡◌, ◌+◌, ◌<◌, ◌≤◌, ◌^◌, ◌-◌, ◌==◌, ◌++◌, [], ℕ, true, false, length, filter, is_some, IsSome, Some, None, IfSome, IfOk, if◌then◌else◌};
 ghost use Rattle.rt_plain.specs.Opening.{open_state};
+ghost use Rattle.rt_plain.specs.Shown.{shown};
 ghost use Rattle.std.specs.Option.{option_map};
 ghost use Rattle.std.specs.Str.{bytes_eq};
 ghost use Rattle.rt_plain.specs.State.{OfThread, thread_at, running_on, is_closed};
@@ -62,6 +63,7 @@ fn facts(board: &Board, records: &Records)
     requires kept { Kept (frame_of board.now (state_of records.now)) (state_of records.now) }
     ensures ready { length records.now.ready ≤ 256 }
     ensures armed { length records.now.armed ≤ 256 }
+    ensures moment { records.now.moment ≤ 1099511627775 }
     ensures there { AreNumbers records.now.tables.threads records.now.ready }
     ensures once { (u : ℕ) → length (filter (λ v. v == u) records.now.ready) ≤ 1 }
     ensures running { IfSome records.now.running (λ r. r < length records.now.tables.threads) }
@@ -130,11 +132,21 @@ impl Kernel {
         &self.board
     }
 
-    /// The tick of now.
-    pub fn tick(&self) -> u32
-        ensures { result ≡ self.now.state.tick }
+    /// The moment of now: how many ticks have passed since opening, at most 1099511627775.
+    pub fn moment(&self) -> u64
+        ensures moment { result ≡ self.now.state.moment }
+        ensures early { result ≤ 1099511627775 }
     {
-        self.records.tick
+        facts(&self.board, &self.records);
+        self.records.moment
+    }
+
+    /// The tick that is shown now: the board's first one and the moment, modulo 4294967296.
+    pub fn tick(&self) -> u32
+        ensures { result ≡ shown self.now.board self.now.state.moment }
+    {
+        let tick = self.board.tick0 as u64 + self.moment();
+        (tick % 4_294_967_296) as u32
     }
 
     /// The next start or arrival number.
@@ -281,9 +293,10 @@ impl Kernel {
         }
     }
 
-    /// The begin of a tick, where no row is due any more: the tick rises, and the slices of running threads fall.
+    /// The begin of a tick, where no row is due any more: the moment grows by one, to 1099511627775 at most, and the
+    /// slices of running threads fall.
     pub fn begin_tick(&mut self)
-        requires tick { self.old.state.tick < 2 ^ 32 - 1 }
+        requires moment { self.old.state.moment < 1099511627775 }
         requires none { due self.old.state ≡ [] }
         ensures board { self.new.board ≡ self.old.board }
         ensures state { self.new.state ≡ next_tick_state self.old.state }
@@ -292,7 +305,7 @@ impl Kernel {
         self.records.begin_tick();
     }
 
-    /// Takes the row that fires first of those due at the tick: `None` exactly where none is due.
+    /// Takes the row that fires first of those due at the moment: `None` exactly where none is due.
     pub fn take_due<L: Ledger>(&mut self, steps: &mut Steps<L>) -> Option<TimerNo>
         ensures board { self.new.board ≡ self.old.board }
         ensures first { first_alarm (due self.old.state) ≡ option_map OfThread result }

@@ -42,6 +42,7 @@ impl Records {
     ) -> Answer
         requires there { t < length self.old.tables.threads }
         requires armed { length self.old.armed ≤ 256 }
+        requires moment { self.old.moment ≤ 1099511627775 }
         requires number { self.old.numbers + 2 < 2 ^ 64 }
         requires known { knows self.old.tables call ≡ true }
         requires lines { length out.old.items < out.old.room }
@@ -60,7 +61,7 @@ impl Records {
             return self.refuse(t, k, Code::Error, out);
         }
         self.show_done(t, k, None, out);
-        let due = timeout.map(|ticks| self.tick as u64 + ticks as u64);
+        let due = timeout.map(|ticks| self.moment + ticks as u64);
         self.wait(t, call, due);
         Answer::Waits
     }

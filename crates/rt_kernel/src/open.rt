@@ -185,7 +185,7 @@ impl Records {
         let tables = Tables::open(alloc, board)?;
         start(tables.rows(), &mut ready);
         Ok(Records {
-            tick: 0,
+            moment: 0,
             numbers: 0,
             tables,
             ready,

@@ -63,7 +63,7 @@ impl Place {
         }
     }
 
-    // The code with which a wait ends at its due tick: 0 for a delay, and else a timeout.
+    // The code with which a wait ends at its due moment: 0 for a delay, and else a timeout.
     pub fn timeout_code(&self) -> Code
         ensures { result ≡ timeout_code (stage_of self.now) }
     {

@@ -21,7 +21,8 @@ use rt_plain::{Call, Line, Lines, Woke};
 /// The records of the kernel. They stand for a plain state.
 #[derive(Drop)]
 pub struct Records {
-    pub tick: u32,
+    /// How many ticks have passed since opening.
+    pub moment: u64,
     pub numbers: u64,
     pub tables: Tables,
     pub ready: Queue,
@@ -124,7 +125,7 @@ impl Records {
         ensures waited { self.new.waited ≡ self.old.waited }
         ensures woken { self.new.woken ≡ self.old.woken }
         ensures numbers { self.new.numbers ≡ self.old.numbers }
-        ensures tick { self.new.tick ≡ self.old.tick }
+        ensures moment { self.new.moment ≡ self.old.moment }
         ensures ready { length self.new.ready ≡ length self.old.ready + 1 }
         ensures out_room { out.new.room ≡ out.old.room }
     {
@@ -132,7 +133,7 @@ impl Records {
         self.enter_ready(t);
     }
 
-    // The thread waits in a call, until a tick if one is given.
+    // The thread waits in a call, until a moment if one is given.
     pub fn wait(&mut self, t: ThreadNo, call: Call, due: Option<u64>)
         requires there { t < length self.old.tables.threads }
         requires room { length self.old.armed < 512 }

@@ -205,7 +205,7 @@ impl Rows {
         self.items[t.0 as usize].place.is_suspended()
     }
 
-    // The code with which the wait of a thread ends at its due tick.
+    // The code with which the wait of a thread ends at its due moment.
     pub fn timeout_code(&self, t: ThreadNo) -> Code
         requires { t < length self.now }
         ensures { result ≡ timeout_code (row_at self.now t).stage }

@@ -53,6 +53,7 @@ impl Records {
     ) -> Answer
         requires there { t < length self.old.tables.threads }
         requires armed { length self.old.armed ≤ 256 }
+        requires moment { self.old.moment ≤ 1099511627775 }
         requires number { self.old.numbers + 2 < 2 ^ 64 }
         requires lines { length out.old.items + 2 ≤ out.old.room }
         ensures state { state_of self.new ≡ (called (state_of self.old) t k (sem_take name.now timeout (state_of self.old) (ByThread t 0))).state }

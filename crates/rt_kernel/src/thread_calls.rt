@@ -62,6 +62,7 @@ impl Records {
     pub fn delay(&mut self, t: ThreadNo, k: u16, ticks: u32, out: &mut Lines) -> Answer
         requires there { t < length self.old.tables.threads }
         requires armed { length self.old.armed ≤ 256 }
+        requires moment { self.old.moment ≤ 1099511627775 }
         requires number { self.old.numbers + 2 < 2 ^ 64 }
         requires lines { length out.old.items + 2 ≤ out.old.room }
         ensures state { state_of self.new ≡ (called (state_of self.old) t k (delay ticks (state_of self.old) (ByThread t 0))).state }
@@ -76,7 +77,7 @@ impl Records {
             return self.refuse(t, k, Code::Error, out);
         }
         self.show_done(t, k, None, out);
-        let due = self.tick as u64 + ticks as u64;
+        let due = self.moment + ticks as u64;
         self.wait(t, Call::Delay(ticks), Some(due));
         Answer::Waits
     }

@@ -12,27 +12,27 @@ use rt_base::ThreadNo;
 use rt_plain::{Line, Lines};
 
 impl Records {
-    // The tick rises, and the slice of the running thread falls.
+    // The moment grows by one tick, and the slice of the running thread falls.
     pub fn begin_tick(&mut self)
-        requires tick { self.old.tick < 2 ^ 32 - 1 }
+        requires moment { self.old.moment < 1099511627775 }
         requires running { IfSome self.old.running (λ r. r < length self.old.tables.threads) }
         ensures state { state_of self.new ≡ next_tick_state (state_of self.old) }
         ensures limits { limits_of self.new.tables ≡ limits_of self.old.tables }
     {
-        self.tick += 1;
+        self.moment += 1;
         if let Some(t) = self.running {
             self.tables.fall(t);
         }
     }
 
-    // Takes the row that fires next at this tick, if one is due.
+    // Takes the row that fires next at this moment, if one is due.
     #[tactic(auto, using(crate::proofs::DueLemmas::first_due_is))]
     pub fn take_due(&mut self) -> Option<ThreadNo>
         ensures first { first_alarm (due (state_of self.old)) ≡ option_map OfThread result }
         ensures state { state_of self.new ≡ taken (state_of self.old) (option_map OfThread result) }
         ensures limits { limits_of self.new.tables ≡ limits_of self.old.tables }
     {
-        let t = self.armed.first_due(self.tick as u64)?;
+        let t = self.armed.first_due(self.moment)?;
         self.armed.remove(t);
         Some(t)
     }

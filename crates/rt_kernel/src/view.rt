@@ -98,7 +98,7 @@ impl Records {
 }
 
 impl View for Kernel {
-    ghost rows = { λ k class. plain_rows k.state class };
+    ghost rows = { λ k class. plain_rows k.board k.state class };
 
     ghost votes_for = { λ k mode. plain_votes k.state.votes mode };
 

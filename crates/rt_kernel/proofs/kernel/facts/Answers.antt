@@ -12,7 +12,7 @@ use Rattle.rt_kernel.proofs.kernel.facts.Goals as goal
 
 -- there are 256 threads at most
 counted : (b : PlainBoard) (n : ℕ) → IsBuilt b → n ≡ thread_count b → n ≤ 256
-counted b n built is = let none : thread_count b ≡ length b.threads = rw built.shell (omega arith) in omega (arith, built.few, is, none)
+counted b n built is = let none : thread_count b ≡ length b.threads = rw (built.shell, built.soft) (omega arith) in omega (arith, built.few, is, none)
 
 pub returns-clause-ready : goal.returns-clause-ready
 returns-clause-ready c =
@@ -25,6 +25,9 @@ returns-clause-armed c =
     let b = c.args.board.now in
     let s : State = state_of c.args.records.now in
     omega (arith, armed-few (frame_of b s) s c.requires.kept, counted b (length s.threads) c.requires.built c.requires.kept.count)
+
+pub returns-clause-moment : goal.returns-clause-moment
+returns-clause-moment c = c.requires.kept.live (omega (arith, c.requires.built.until)) refl
 
 pub returns-clause-there : goal.returns-clause-there
 returns-clause-there c = ready-numbers (frame_of c.args.board.now (state_of c.args.records.now)) (state_of c.args.records.now) c.requires.kept

@@ -1,4 +1,4 @@
-use Rattle.std.proofs.Common.{sym, ap, ◌∙◌, subst}
+use Rattle.std.proofs.Common.{◌<◌, sym, ap, ◌∙◌, subst}
 use Rattle.rt_plain.specs.State.{State}
 use Rattle.rt_plain.proofs.Invariant.{Kept}
 use Rattle.rt_kernel.specs.Inside.{frame_of}
@@ -12,5 +12,5 @@ pub invariant_of-self : goal.invariant_of-self
 invariant_of-self c = record {
   built = c.self.invariant.built;
   limits = c.begin_tick.ensures.limits ∙ c.self.invariant.limits;
-  kept = subst (λ (s : State). Kept (frame_of c.self.inside.board s) s) (sym c.begin_tick.ensures.state) (begun-kept c.self.inside.board (state_of c.self.inside.records) (ap (λ (k : KernelSeen). due k.state) c.self.view_is ∙ c.requires.none) c.self.invariant.kept);
+  kept = subst (λ (s : State). Kept (frame_of c.self.inside.board s) s) (sym c.begin_tick.ensures.state) (begun-kept c.self.inside.board (state_of c.self.inside.records) (ap (λ (k : KernelSeen). due k.state) c.self.view_is ∙ c.requires.none) (subst (λ (k : KernelSeen). k.state.moment < 1099511627775) (sym c.self.view_is) c.requires.moment) c.self.invariant.kept);
 }

@@ -27,7 +27,7 @@ does g c = subst (λ (k : KernelSeen). DoesNext k c.in-Thread.t c.in-Thread.fiel
 stated : (g : Over) (c : goal.After-call g) → state_of c.call.new.self ≡ (statement_effect c.self.inside.board c.in-Thread.t c.in-Thread.field-1 (state_of c.self.inside.records)).state
 stated g c =
     let next = does g c in
-    c.call.ensures.state ∙ sym (ap (λ (e : Effect). e.state) (call_is c.self.inside.board (state_of c.self.inside.records) c.in-Thread.t c.in-Thread.field-1 c.args.call.now c.self.invariant.built.shell (first_core c.self.inside.records.running c.in-Thread.field-1 c.in-Thread.t next.runs).0 next.again next.next))
+    c.call.ensures.state ∙ sym (ap (λ (e : Effect). e.state) (call_is c.self.inside.board (state_of c.self.inside.records) c.in-Thread.t c.in-Thread.field-1 c.args.call.now c.self.invariant.built.shell c.self.invariant.built.soft (first_core c.self.inside.records.running c.in-Thread.field-1 c.in-Thread.t next.runs).0 next.again next.next))
 
 pub invariant_of-self : goal.invariant_of-self
 invariant_of-self g c = record {

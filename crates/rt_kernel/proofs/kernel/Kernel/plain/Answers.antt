@@ -33,7 +33,7 @@ script g c = c.script_of-script.ensures ∙ ap (script_of c.self.inside.board) (
 effect : (g : Over) (c : goal.After-plain g) → statement_effect c.self.inside.board c.in-Some.t c.args.core (state_of c.self.inside.records) ≡ plain_did c.script_of-script.result.now c.in-Some.t c.args.stmt.now (state_of c.self.inside.records)
 effect g c =
     let next = does g c in
-    plain_is c.self.inside.board (state_of c.self.inside.records) c.in-Some.t c.args.core c.args.stmt.now refl c.self.invariant.built.shell c.requires.plain next.again next.next
+    plain_is c.self.inside.board (state_of c.self.inside.records) c.in-Some.t c.args.core c.args.stmt.now refl c.self.invariant.built.shell c.self.invariant.built.soft c.requires.plain next.again next.next
     ∙ ap (λ (x : List Stmt). plain_did x c.in-Some.t c.args.stmt.now (state_of c.self.inside.records)) (sym (script g c))
 
 stated : (g : Over) (c : goal.After-plain g) → state_of c.plain.new.self ≡ (statement_effect c.self.inside.board c.in-Some.t c.args.core (state_of c.self.inside.records)).state
