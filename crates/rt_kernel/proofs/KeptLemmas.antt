@@ -15,7 +15,7 @@ use Rattle.rt_plain.specs.Ticks.{next_tick_state, with_slice_used, thread_after_
 use Rattle.rt_plain.specs.Owners.{close_effect}
 use Rattle.rt_plain.specs.Calls.{settled_effect}
 use Rattle.rt_plain.proofs.TallyLemmas.{one_if, tally, tally-length, all-count, all-weaker, tally-filter}
-use Rattle.rt_plain.proofs.Invariant.{Frame, Kept, stage_at, IsRowKept, IsWaited, fine-at, thread-kept, is-there, active-open, waiting-open, placed-active, running-active, run-kept, preempt-kept, without_alarm-kept}
+use Rattle.rt_plain.proofs.Invariant.{Frame, Kept, stage_at, IsRowKept, IsRowBounded, IsFineThread, IsWaited, fine-at, fine-later, bounded-later, thread-kept, is-there, active-open, waiting-open, placed-active, running-active, run-kept, preempt-kept, without_alarm-kept}
 use Rattle.rt_plain.proofs.TickLemmas.{IsDueRow, DropsOne, due-rows, less-fits, filter-length, slice-fine, fold-kept}
 use Rattle.rt_plain.proofs.TickCosts.{all-owned, armed-few}
 use Rattle.rt_plain.proofs.StepLemmas.{picked-ready}
@@ -35,10 +35,11 @@ loosened f s kept low ends = record {
   cores = kept.cores;
   placed = kept.placed;
   rows = all-weaker (IsRowKept f.low s.threads) (IsRowKept s.moment s.threads) s.armed (λ row is. (omega (arith, low, is.0), is.1)) kept.rows;
+  bounded = subst (λ now. AllByRecursion (IsRowBounded now s.numbers) s.armed) (sym kept.moment_is) kept.bounded;
   due_few = omega arith;
   single = kept.single;
   owned = kept.owned;
-  fine = kept.fine;
+  fine = subst (λ now. AllByRecursion (IsFineThread f.board now) s.threads) (sym kept.moment_is) kept.fine;
   nest_runs = kept.nest_runs;
   timers_fine = kept.timers_fine;
 }
@@ -176,10 +177,11 @@ begun-kept b s none early kept = loosened next (next_tick_state s) after (omega 
     cores = kept.cores;
     placed = kept.placed;
     rows = both (IsRowKept s.moment s.threads) (λ (row : ArmedRow Alarm). row.due ≢ s.moment) (IsRowKept (s.moment + 1) s.threads) (λ row is later. (omega (arith, is.0, later), is.1)) s.armed kept.rows (none-due s.moment s.armed none);
+    bounded = bounded-later s.moment s.numbers s.armed kept.bounded;
     due_few = omega arith;
     single = kept.single;
     owned = kept.owned;
-    fine = kept.fine;
+    fine = fine-later b s.moment s.threads kept.fine;
     nest_runs = kept.nest_runs;
     timers_fine = kept.timers_fine;
   }
