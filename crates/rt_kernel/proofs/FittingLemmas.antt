@@ -39,7 +39,7 @@ one_more xs x limit room = let lt = leb-false limit (length xs) room in omega (a
 
 -- what is so while the lines of a board are read: limits come before objects
 record Fits (s : SoFar) : Type 0 where
-  bare : s.rank < 13 → (s.board.sems ≡ []) × (s.board.events ≡ [])
+  bare : s.rank < 16 → (s.board.sems ≡ []) × (s.board.events ≡ [])
   objects : HasFittingObjects s.board
 
 none_left : {A : Type 0} (xs : List A) (n : ℕ) → xs ≡ [] → length xs ≤ n
@@ -54,13 +54,13 @@ fits-start = record {
   objects = record { sem_room = omega arith; event_room = omega arith; sem_names = no_names (λ (d : SemDef). d.name); event_names = no_names (λ (d : EventDef). d.name) };
 }
 
-in_order : (k r : ℕ) → (ltb k r || (leb k 11 && eqb k r)) ≡ false → r ≤ k
-in_order k r e = ltb-false k r (neither (ltb k r) (leb k 11 && eqb k r) e).0
+in_order : (k r : ℕ) → (ltb k r || (leb k 14 && eqb k r)) ≡ false → r ≤ k
+in_order k r e = ltb-false k r (neither (ltb k r) (leb k 14 && eqb k r) e).0
 
 -- ranks never fall
 rank_grows : (s : SoFar) (l : BoardLine) → Stands s l → s.rank ≤ (after s l).rank
 unfolding row
-rank_grows s (BoardLine.Statement x) h = let e = eqb-true s.rank 20 (not-false _ h.order) in omega (arith, e)
+rank_grows s (BoardLine.Statement x) h = let e = eqb-true s.rank 24 (not-false _ h.order) in omega (arith, e)
 rank_grows s l h = in_order (row (kind_of l)).rank s.rank h.order
 
 fits-after : (s : SoFar) (l : BoardLine) → Fits s → Stands s l → Fits (after s l)

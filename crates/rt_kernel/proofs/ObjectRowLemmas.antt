@@ -8,6 +8,7 @@ use Rattle.std.proofs.lemmas.Option.{none-some, same_Some, slice_get-map, slice_
 use Rattle.rt_base.specs.declared.codes.Class.{Class}
 use Rattle.rt_plain.specs.declared.row.Row.{Row}
 use Rattle.rt_plain.specs.declared.stmt.Call.{Call}
+use Rattle.rt_plain.specs.PlainBoard.{PlainBoard}
 use Rattle.rt_plain.specs.State.{State, Thread, Sem, EventObj}
 use Rattle.rt_plain.specs.Waiting.{takes_sem, receives_event}
 use Rattle.rt_plain.specs.Rows.{rows, sem_row, event_row}
@@ -92,8 +93,8 @@ map_same f g same None = refl
 map_same f g same (Some x) = ap Some (same x)
 
 -- the row at a place
-pub sem_rows_at : (s : State) (place : ℕ) → IsFree s → slice_get (rows s Class.Sem) place ≡ option_map (sem_shown s.threads) (slice_get s.sems place)
-sem_rows_at s place free = slice_get-map (sem_row s) s.sems place ∙ map_same (sem_row s) (sem_shown s.threads) (λ sem. sem_row_plain s sem free) (slice_get s.sems place)
+pub sem_rows_at : (b : PlainBoard) (s : State) (place : ℕ) → IsFree s → slice_get (rows b s Class.Sem) place ≡ option_map (sem_shown s.threads) (slice_get s.sems place)
+sem_rows_at b s place free = slice_get-map (sem_row s) s.sems place ∙ map_same (sem_row s) (sem_shown s.threads) (λ sem. sem_row_plain s sem free) (slice_get s.sems place)
 
-pub event_rows_at : (s : State) (place : ℕ) → IsFree s → slice_get (rows s Class.Event) place ≡ option_map (event_shown s.threads) (slice_get s.events place)
-event_rows_at s place free = slice_get-map (event_row s) s.events place ∙ map_same (event_row s) (event_shown s.threads) (λ event. event_row_plain s event free) (slice_get s.events place)
+pub event_rows_at : (b : PlainBoard) (s : State) (place : ℕ) → IsFree s → slice_get (rows b s Class.Event) place ≡ option_map (event_shown s.threads) (slice_get s.events place)
+event_rows_at b s place free = slice_get-map (event_row s) s.events place ∙ map_same (event_row s) (event_shown s.threads) (λ event. event_row_plain s event free) (slice_get s.events place)
