@@ -188,7 +188,7 @@ begun-kept b s none early kept = loosened next (next_tick_state s) after (omega 
 
   used : (u : State) (r : Option ℕ) → Kept next u → Kept next (with_slice_used u r)
   used u None k = k
-  used u (Some t) k = thread-kept next u t (thread_after_slice (thread_at u t)) (slice-fine b (thread_at u t)).0 ((slice-fine b (thread_at u t)).1 (fine-at next u t k)) k
+  used u (Some t) k = thread-kept next u t (thread_after_slice (thread_at u t)) (slice-fine b (s.moment + 1) (thread_at u t)).0 ((slice-fine b (s.moment + 1) (thread_at u t)).1 (fine-at next u t k)) k
 
   after : Kept next (next_tick_state s)
   after = fold-kept next with_slice_used used s.running (record s { moment = s.moment + 1 }) risen
