@@ -6,7 +6,6 @@ pub mod EmptyLemmas
 pub mod EndLemmas
 pub mod EventCallLemmas
 pub mod EventLemmas
-pub mod FittingLemmas
 pub mod FoundLemmas
 pub mod KeptLemmas
 pub mod ListLemmas

@@ -16,7 +16,6 @@ use Rattle.rt_kernel.specs.Inside.{frame_of}
 use Rattle.rt_kernel.specs.Opened.{first_tables}
 use Rattle.rt_kernel.specs.Threads.{plain_thread, row_at}
 use Rattle.rt_kernel.specs.View.{state_of}
-use Rattle.rt_kernel.proofs.BuiltLemmas.{proper}
 use Rattle.rt_kernel.proofs.KeptLemmas.{loosened}
 
 -- one number more of a range
@@ -60,9 +59,9 @@ unfolding open_state
 opened b k built moment numbers tables ready running armed = rw (moment, numbers, tables, ready, running, armed, built.shell, built.soft, built.mutexes, built.mailboxes, built.queues, built.pools, built.devices, built.timers, built.arrivals, built.cores) refl
 
 pub opened_kept : (b : PlainBoard) (s : State) → IsBuilt b → s ≡ open_state b → Kept (frame_of b s) s
-opened_kept b s built is = subst (λ (u : State). Kept (frame_of b u) u) (sym is) (loosened (still b 0) (open_state b) kept (omega (arith, kept.moment_is)) (omega (arith, built.latest))) where
+opened_kept b s built is = subst (λ (u : State). Kept (frame_of b u) u) (sym is) (loosened (still b 0) (open_state b) kept (omega (arith, kept.moment_is)) (omega (arith, built.until))) where
   kept : Kept (still b 0) (open_state b)
-  kept = opened-kept b (proper b built)
+  kept = opened-kept b built.proper
 
 both : (a b : Bool) → a && b ≡ true → (a ≡ true) × (b ≡ true)
 both true true is = (refl, refl)

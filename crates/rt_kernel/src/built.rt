@@ -1,7 +1,7 @@
 ghost use Rattle.std.specs.Prelude.{◌≡◌, true};
 ghost use Rattle.std.specs.List.{list_all};
-ghost use Rattle.rt_plain.specs.Sound.{is_span, is_timeout};
-ghost use Rattle.rt_kernel.specs.Built.{is_built_class, is_built_call, is_built_statement, is_built_thread, has_built_classes_alone, has_limits, has_times, has_scripts_alone, is_built, HasFittingObjects, IsBuilt};
+ghost use Rattle.rt_plain.specs.Canon.{IsValid};
+ghost use Rattle.rt_kernel.specs.Built.{is_built_class, is_built_call, is_built_statement, is_built_thread, has_built_classes_alone, has_scripts_alone, is_built, IsBuilt};
 
 use rt_base::Class;
 use rt_plain::{Board, Call, Stmt, ThreadDef};
@@ -15,35 +15,16 @@ fn is_built_class(class: Class) -> bool
     }
 }
 
-// Whether so many ticks may lie ahead.
-fn is_span(ticks: u32) -> bool
-    ensures { result ≡ is_span ticks }
-{
-    ticks <= 2_147_483_647
-}
-
-// Whether a timeout is none, or one of so many ticks.
-fn is_timeout(timeout: Option<u32>) -> bool
-    ensures { result ≡ is_timeout timeout }
-{
-    match timeout {
-        Some(ticks) => is_span(ticks),
-        None => true,
-    }
-}
-
 fn is_built_call(call: &Call) -> bool
     ensures { result ≡ is_built_call call.now }
 {
     match call {
-        Call::Delay(ticks) => 0 < *ticks && is_span(*ticks),
-        Call::Yield | Call::SchedLock | Call::SchedUnlock => true,
+        Call::Delay(_) | Call::Yield | Call::SchedLock | Call::SchedUnlock => true,
         Call::Startup(_) | Call::Suspend(_) | Call::Resume(_) => true,
         Call::Kill(_) | Call::SetPrio(_, _) => true,
-        Call::SemCreate(_, _, _) | Call::SemRelease(_) => true,
+        Call::SemCreate(_, _, _) | Call::SemTake(_, _) | Call::SemRelease(_) => true,
         Call::EventCreate(_, _) | Call::EventSend(_, _) => true,
-        Call::SemTake(_, timeout) => is_timeout(*timeout),
-        Call::EventRecv(_, _, _, _, timeout) => is_timeout(*timeout),
+        Call::EventRecv(_, _, _, _, _) => true,
         Call::Delete(class, _) => is_built_class(*class),
         _ => false,
     }
@@ -67,7 +48,7 @@ fn are_built_statements(script: &[Stmt]) -> bool
 fn is_built_thread(def: &ThreadDef) -> bool
     ensures { result ≡ is_built_thread def.now }
 {
-    !def.core.is_some() && (def.script.len() <= 512 && are_built_statements(def.script.as_slice()))
+    !def.core.is_some() && are_built_statements(def.script.as_slice())
 }
 
 fn are_built_threads(defs: &[ThreadDef]) -> bool
@@ -84,27 +65,15 @@ fn has_built_classes_alone(board: &Board) -> bool
         && ((board.devices.len() == 0 && board.timers.len() == 0) && board.arrivals.len() == 0)
 }
 
-fn has_limits(board: &Board) -> bool
-    ensures { result ≡ has_limits board.now }
-{
-    board.limits.sem <= 256 && (board.limits.event <= 256 && board.limits.mutex <= 256)
-}
-
-fn has_times(board: &Board) -> bool
-    ensures { result ≡ has_times board.now }
-{
-    0 < board.thresh && (0 < board.until && board.until <= 1_099_511_627_775)
-}
-
 fn has_scripts_alone(board: &Board) -> bool
     ensures { result ≡ has_scripts_alone board.now }
 {
     board.cores == 1 && (!board.shell.is_some() && !board.soft.is_some())
 }
 
-// What is so of the semaphores and event objects of each board.
-fn object_facts(board: &Board)
-    ensures { HasFittingObjects board.now }
+// Each board is valid.
+fn valid_facts(board: &Board)
+    ensures { IsValid board.now }
 {
     let _sems = &board.sems;
 }
@@ -115,17 +84,14 @@ pub fn built_facts(board: &Board)
     requires { is_built board.now ≡ true }
     ensures { IsBuilt board.now }
 {
-    object_facts(board);
+    valid_facts(board);
 }
 
-/// Whether the kernel runs the board so far: one core without a shell and without a thread for soft timers, at most 256
-/// threads that are bound to no core, no objects besides them but semaphores and event objects, and no statements but
-/// those on these. Each board has delays and timeouts of at most 2147483647 ticks, a shortest sleep of a tick at least,
-/// and a last moment of 1 to 1099511627775.
+/// Whether the kernel runs the board so far: one core without a shell and without a thread for soft timers, threads that
+/// are bound to no core, no objects besides them but semaphores and event objects, and no statements but those on these.
 pub fn is_built(board: &Board) -> bool
     ensures { result ≡ is_built board.now }
 {
-    ((has_built_classes_alone(board) && has_limits(board)) && has_scripts_alone(board))
-        && (has_times(board)
-            && (board.threads.len() <= 256 && are_built_threads(board.threads.as_slice())))
+    has_built_classes_alone(board)
+        && (has_scripts_alone(board) && are_built_threads(board.threads.as_slice()))
 }

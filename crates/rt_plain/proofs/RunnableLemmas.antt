@@ -20,7 +20,7 @@ use Rattle.rt_plain.specs.PlainBoard.{PlainBoard}
 use Rattle.rt_plain.specs.Opening.{arrival_moment}
 use Rattle.rt_plain.specs.StatementTable.{FitsStatement}
 use Rattle.rt_plain.specs.Tails.{FitsTimerCall}
-use Rattle.rt_plain.specs.BoardText.{console_name, thread_limit, is_event_beyond, is_schedule_beyond}
+use Rattle.rt_plain.specs.BoardText.{console_name, thread_limit, last_length, is_event_beyond, is_schedule_beyond}
 use Rattle.rt_plain.specs.Canon.{IsValid}
 use Rattle.rt_plain.specs.Runs.{is_event_of, thread_count, room, is_over}
 use Rattle.rt_plain.specs.Schedules.{listed_of, IsDriveable}
@@ -148,6 +148,24 @@ valid_proper b is =
       thresh = (settings LineKind.Thresh).0.0;
       until = (settings LineKind.Until).0.0;
     }
+
+-- the last moment is one that a tick can reach
+pub valid_until : (b : PlainBoard) → IsValid b → b.until ≤ 1099511627775
+valid_until b is = ((valid_grows b is).0 LineKind.Until).0.1
+
+-- ---- scripts
+
+last_of : (front : List ThreadDef) (t : ThreadDef) → last_length (front ++ t ∷ []) ≡ length t.script
+last_of [] t = refl
+last_of (u ∷ []) t = refl
+last_of (u ∷ v ∷ us) t = last_of (v ∷ us) t
+
+short_thread : (b : PlainBoard) (front : List ThreadDef) (t : ThreadDef) → ThreadComes b front t → length t.script ≤ 512
+short_thread b front t h = grows-few (StatementComes b front t) 512 (λ done x p. subst (λ n. leb 512 n ≡ false) (last_of front (record t { script = done })) p.2) [] t.script (omega arith) h.1
+
+-- no script is long
+pub valid_scripts : (b : PlainBoard) → IsValid b → AllByRecursion (λ def. length def.script ≤ 512) b.threads
+valid_scripts b is = grows-each (ThreadComes b) (λ def. length def.script ≤ 512) (short_thread b) [] b.threads ((valid_grows b is).1 LineKind.Thread)
 
 -- ---- arrivals
 

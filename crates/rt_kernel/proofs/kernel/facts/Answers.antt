@@ -27,7 +27,7 @@ returns-clause-armed c =
     omega (arith, armed-few (frame_of b s) s c.requires.kept, counted b (length s.threads) c.requires.built c.requires.kept.count)
 
 pub returns-clause-moment : goal.returns-clause-moment
-returns-clause-moment c = c.requires.kept.live (omega (arith, c.requires.built.until)) refl
+returns-clause-moment c = c.requires.kept.live c.requires.built.proper.until refl
 
 pub returns-clause-there : goal.returns-clause-there
 returns-clause-there c = ready-numbers (frame_of c.args.board.now (state_of c.args.records.now)) (state_of c.args.records.now) c.requires.kept

@@ -9,7 +9,7 @@ use Rattle.rt_kernel.specs.View.{state_of}
 use Rattle.rt_plain.specs.Statements.{statement_effect}
 use Rattle.rt_kernel.specs.declared.answer.By.{By}
 use Rattle.rt_kernel.specs.Built.{is_built_statement}
-use Rattle.rt_kernel.proofs.BuiltLemmas.{all-built, proper}
+use Rattle.rt_kernel.proofs.BuiltLemmas.{all-built}
 use Rattle.rt_kernel.proofs.KeptLemmas.{stated-kept}
 use Rattle.rt_kernel.proofs.StatementLemmas.{call_is, first_core}
 use Rattle.rt_kernel.proofs.kernel.Kernel.call.Given.{Over}
@@ -33,5 +33,5 @@ pub invariant_of-self : goal.invariant_of-self
 invariant_of-self g c = record {
   built = c.self.invariant.built;
   limits = c.call.ensures.limits ∙ c.self.invariant.limits;
-  kept = subst (λ (u : State). Kept (frame_of c.self.inside.board u) u) (sym (stated g c)) (stated-kept c.self.inside.board (state_of c.self.inside.records) c.in-Thread.t c.in-Thread.field-1 (proper c.self.inside.board c.self.invariant.built) (does g c).runs c.self.invariant.kept);
+  kept = subst (λ (u : State). Kept (frame_of c.self.inside.board u) u) (sym (stated g c)) (stated-kept c.self.inside.board (state_of c.self.inside.records) c.in-Thread.t c.in-Thread.field-1 c.self.invariant.built.proper (does g c).runs c.self.invariant.kept);
 }

@@ -5,12 +5,11 @@ use Rattle.rt_plain.specs.Sound.{IsProper}
 use Rattle.rt_kernel.specs.Inside.{frame_of}
 use Rattle.rt_kernel.specs.Seen.{KernelSeen}
 use Rattle.rt_kernel.specs.View.{state_of}
-use Rattle.rt_kernel.proofs.BuiltLemmas.{proper}
 use Rattle.rt_kernel.proofs.KeptLemmas.{due-few, running-there, running-open}
 use Rattle.rt_kernel.proofs.kernel.Kernel.facts.Goals as goal
 
 pub returns-clause-proper : goal.returns-clause-proper
-returns-clause-proper c = subst (λ (k : KernelSeen). IsProper k.board) c.self.view_is (proper c.self.inside.board c.self.invariant.built)
+returns-clause-proper c = subst (λ (k : KernelSeen). IsProper k.board) c.self.view_is c.self.invariant.built.proper
 
 pub returns-clause-due : goal.returns-clause-due
 returns-clause-due c =

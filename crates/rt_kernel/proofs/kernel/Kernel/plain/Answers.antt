@@ -9,7 +9,7 @@ use Rattle.rt_kernel.specs.View.{state_of}
 use Rattle.rt_plain.specs.Statements.{script_of, statement_effect}
 use Rattle.rt_kernel.specs.Plain.{plain_did}
 use Rattle.rt_kernel.specs.Threads.{row_at}
-use Rattle.rt_kernel.proofs.BuiltLemmas.{script-short, proper}
+use Rattle.rt_kernel.proofs.BuiltLemmas.{script-short}
 use Rattle.rt_kernel.proofs.KeptLemmas.{stated-kept}
 use Rattle.rt_kernel.proofs.StatementLemmas.{plain_is, first_core}
 use Rattle.rt_kernel.proofs.kernel.Kernel.plain.Given.{Over}
@@ -43,7 +43,7 @@ pub invariant_of-self : goal.invariant_of-self
 invariant_of-self g c = record {
   built = c.self.invariant.built;
   limits = c.plain.ensures.limits ∙ c.self.invariant.limits;
-  kept = subst (λ (u : State). Kept (frame_of c.self.inside.board u) u) (sym (stated g c)) (stated-kept c.self.inside.board (state_of c.self.inside.records) c.in-Some.t c.args.core (proper c.self.inside.board c.self.invariant.built) (does g c).runs c.self.invariant.kept);
+  kept = subst (λ (u : State). Kept (frame_of c.self.inside.board u) u) (sym (stated g c)) (stated-kept c.self.inside.board (state_of c.self.inside.records) c.in-Some.t c.args.core c.self.invariant.built.proper (does g c).runs c.self.invariant.kept);
 }
 
 same : (g : Over) (c : goal.After-plain g) (t : ℕ) → running_on c.args.self.now.state c.args.core ≡ Some t → c.in-Some.t ≡ t
