@@ -88,5 +88,3 @@ statement-built (st ∷ script) (suc i) all = statement-built script i (both (is
 pub all-built : (b : PlainBoard) (name : List ℕ) (k : ℕ) → IsBuilt b → is_built_statement (statement_at (script_of b name) k) ≡ true
 all-built b name k built = statement-built (script_of b name) (k - 1) (script-all b name (λ script. list_all is_built_statement script ≡ true) refl
     (list_all-each is_built_thread (λ (def : ThreadDef). list_all is_built_statement def.script ≡ true) (λ def is. (both _ _ is).1) b.threads built.threads))
-
-pub ruleset built_facts = (built)

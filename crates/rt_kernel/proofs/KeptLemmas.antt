@@ -42,6 +42,7 @@ loosened f s kept low ends = record {
   fine = subst (λ now. AllByRecursion (IsFineThread f.board now) s.threads) (sym kept.moment_is) kept.fine;
   nest_runs = kept.nest_runs;
   timers_fine = kept.timers_fine;
+  works_known = kept.works_known;
 }
 
 -- the same for an action that was made under the frame of a state, whose moment stays
@@ -184,6 +185,7 @@ begun-kept b s none early kept = loosened next (next_tick_state s) after (omega 
     fine = fine-later b s.moment s.threads kept.fine;
     nest_runs = kept.nest_runs;
     timers_fine = kept.timers_fine;
+    works_known = kept.works_known;
   }
 
   used : (u : State) (r : Option ℕ) → Kept next u → Kept next (with_slice_used u r)

