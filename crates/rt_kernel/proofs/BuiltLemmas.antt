@@ -11,7 +11,8 @@ use Rattle.rt_plain.specs.Statements.{script_of, statement_at}
 use Rattle.rt_plain.specs.Canon.{IsValid}
 use Rattle.rt_plain.proofs.RunnableLemmas.{IsStocked, valid_stocked, valid_proper, valid_until, valid_scripts, valid_sized, valid_threads}
 use Rattle.rt_plain.proofs.TallyLemmas.{all-found}
-use Rattle.rt_kernel.specs.Built.{is_built, IsBuilt, HasFittingObjects, is_built_thread, is_built_statement}
+use Rattle.kernel_tables.specs.Opened.{HasFittingObjects}
+use Rattle.rt_kernel.specs.Built.{is_built, IsBuilt, is_built_thread, is_built_statement}
 
 no_items : {A : Type 0} (xs : List A) → eqb (length xs) 0 ≡ true → xs ≡ []
 no_items [] is = refl

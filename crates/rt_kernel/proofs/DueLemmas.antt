@@ -3,9 +3,8 @@ use Rattle.std.proofs.Common.{◌≡◌, ℕ, zero, suc, ◌+◌, ◌<◌, arith
 use Rattle.std.specs.Prelude.{if◌then◌else◌, ◌==◌}
 use Rattle.rt_plain.specs.State.{ArmedRow, Alarm}
 use Rattle.rt_plain.specs.Due.{put_by_number, by_number, due_rows_at}
-use Rattle.rt_kernel.specs.Due.{earlier, least_due, first_alarm}
+use Rattle.rt_kernel.specs.Due.{earlier, least_due, first_alarm, plain_armed}
 use Rattle.rt_kernel.specs.declared.armed.Armed.{Armed}
-use Rattle.rt_kernel.specs.Threads.{plain_armed}
 
 -- the first of some rows
 abbrev head_row : List (ArmedRow Alarm) → Option (ArmedRow Alarm)

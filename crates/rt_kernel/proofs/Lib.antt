@@ -1,12 +1,8 @@
 pub mod BuiltLemmas
-pub mod CreateLemmas
 pub mod CurLemmas
 pub mod DueLemmas
-pub mod EmptyLemmas
 pub mod EndLemmas
 pub mod EventCallLemmas
-pub mod EventLemmas
-pub mod FoundLemmas
 pub mod KeptLemmas
 pub mod ListLemmas
 pub mod ObjectQuiet
@@ -16,13 +12,10 @@ pub mod OwnLemmas
 pub mod PickLemmas
 pub mod PrioLemmas
 pub mod Quiet
-pub mod RowLemmas
 pub mod SemCallLemmas
-pub mod SemLemmas
 pub mod Settled
 pub mod StatementLemmas
 pub mod SwitchLemmas
-pub mod TableLemmas
-pub mod TiedLemmas
 pub mod ViewLemmas
+pub mod WaiterLemmas
 pub mod WakeLemmas

@@ -4,7 +4,7 @@ use Rattle.std.specs.Prelude.{if◌then◌else◌}
 use Rattle.std.specs.List.{list_any}
 use Rattle.rt_plain.specs.State.{State, thread_at}
 use Rattle.rt_kernel.specs.View.{state_of}
-use Rattle.rt_kernel.specs.Threads.{ArePlain}
+use Rattle.kernel_tables.specs.Threads.{ArePlain}
 use Rattle.rt_kernel.specs.declared.records.Records.{Records}
 use Rattle.rt_plain.specs.Priority.{cur}
 use Rattle.rt_plain.specs.Pick.{pick, first_best, goes_before, is_free_for, ready_row}

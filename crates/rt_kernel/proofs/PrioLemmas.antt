@@ -16,7 +16,7 @@ use Rattle.rt_plain.specs.Calls.{settled_effect, has_new_cur, prio_line}
 use Rattle.rt_plain.proofs.TallyLemmas.{same-set, other-set, here-set, length-set_at}
 use Rattle.rt_kernel.specs.Called.{called}
 use Rattle.rt_kernel.specs.Prio.{to_end, prio_settled, prio_called}
-use Rattle.rt_kernel.specs.Threads.{is_found}
+use Rattle.kernel_tables.specs.Threads.{is_found}
 use Rattle.rt_kernel.proofs.CurLemmas.{IsFree, cur-base}
 use Rattle.rt_kernel.proofs.Settled.{settled-one, settled_one}
 use Rattle.rt_kernel.proofs.Quiet.{base-set, quiet-self, call_settles}

@@ -15,12 +15,12 @@ use Rattle.rt_plain.proofs.FieldLemmas.{is_word}
 use Rattle.rt_plain.proofs.StatementTableLemmas.{find_some}
 use Rattle.ipc_counts.specs.declared.sem.SemReleased.TheVariants.{Woke, Raised, Full}
 use Rattle.rt_kernel.specs.declared.records.Records.{Records}
-use Rattle.rt_kernel.specs.Tabled.{Tabled, Releases, found_sem, sem_line, sems_taken, woken_row, all_woken}
-use Rattle.rt_kernel.specs.Threads.{row_at}
+use Rattle.kernel_tables.specs.Tabled.{Tabled, Releases, found_sem, sem_line, sems_taken, woken_row, all_woken}
+use Rattle.kernel_tables.specs.Threads.{row_at}
 use Rattle.rt_kernel.specs.View.{state_of}
 use Rattle.rt_kernel.specs.Wake.{follow_effect}
 use Rattle.rt_kernel.proofs.CurLemmas.{IsFree}
-use Rattle.rt_kernel.proofs.TiedLemmas.{waiters-line}
+use Rattle.rt_kernel.proofs.WaiterLemmas.{waiters-line}
 use Rattle.rt_kernel.proofs.WakeLemmas.{on, row_names, wake-follows, wakes-follow, line-there}
 
 -- what is found by a name has it

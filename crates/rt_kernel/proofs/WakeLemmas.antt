@@ -19,12 +19,12 @@ use Rattle.rt_plain.proofs.TallyLemmas.{all-weaker, same-set, here-set, length-s
 use Rattle.rt_plain.proofs.WakeLemmas.{waiters-wait}
 use Rattle.rt_kernel.specs.Followed.{followed}
 use Rattle.rt_kernel.specs.declared.records.Records.{Records}
-use Rattle.rt_kernel.specs.Tabled.{Tabled, line_of, woken_row, given_row, all_woken, all_given}
-use Rattle.rt_kernel.specs.Threads.{with_row, row_at}
+use Rattle.kernel_tables.specs.Tabled.{Tabled, line_of, woken_row, given_row, all_woken, all_given}
+use Rattle.kernel_tables.specs.Threads.{with_row, row_at}
 use Rattle.rt_kernel.specs.View.{state_of}
 use Rattle.rt_kernel.specs.Wake.{follow_effect}
 use Rattle.rt_kernel.proofs.CurLemmas.{IsFree}
-use Rattle.rt_kernel.proofs.TiedLemmas.{waiters-line}
+use Rattle.rt_kernel.proofs.WaiterLemmas.{waiters-line}
 
 -- the records on other tables
 abbrev pub on : Records → Tabled → State

@@ -1,12 +1,13 @@
 -- Which boards the kernel runs so far. This test goes away once all is built.
-use Rattle.std.specs.Prelude.{◌≡◌, ◌≢◌, ◌≤◌, [], IsTrue, Bool, true, false, not, ◌&&◌, None, length, is_some, ◌==◌}
-use Rattle.std.specs.List.{list_all, AllPairs, AllByRecursion}
+use Rattle.std.specs.Prelude.{◌≡◌, ◌≤◌, [], IsTrue, Bool, true, false, not, ◌&&◌, None, length, is_some, ◌==◌}
+use Rattle.std.specs.List.{list_all, AllByRecursion}
 use Rattle.rt_base.specs.declared.codes.Class.{Class}
 use Rattle.rt_plain.specs.declared.board.ThreadDef.{ThreadDef}
 use Rattle.rt_plain.specs.declared.stmt.Call.{Call}
 use Rattle.rt_plain.specs.declared.stmt.Stmt.{Stmt}
 use Rattle.rt_plain.specs.PlainBoard.{PlainBoard}
 use Rattle.rt_plain.specs.Sound.{IsProper, IsSized}
+use Rattle.kernel_tables.specs.Opened.{HasFittingObjects}
 
 -- the classes of which objects are made and deleted
 abbrev pub is_built_class : Class → Bool
@@ -55,13 +56,6 @@ has_scripts_alone b = (b.cores == 1) && (not (is_some b.shell) && not (is_some b
 
 abbrev pub is_built : PlainBoard → Bool
 is_built b = has_built_classes_alone b && (has_scripts_alone b && list_all is_built_thread b.threads)
-
--- there is room for the semaphores and event objects, and in each class their names are distinct
-pub record HasFittingObjects (b : PlainBoard) : Type 0 where
-  pub sem_room : length b.sems ≤ b.limits.sem
-  pub event_room : length b.events ≤ b.limits.event
-  pub sem_names : AllPairs (λ a c. a.name ≢ c.name) b.sems
-  pub event_names : AllPairs (λ a c. a.name ≢ c.name) b.events
 
 -- the same as facts, with what each valid board has
 pub record IsBuilt (b : PlainBoard) : Type 0 where

@@ -1,7 +1,12 @@
 -- Which armed row fires next.
 use Rattle.std.specs.Prelude.{ℕ, List, [], ◌∷◌, Option, Some, None, nat_lt, if◌then◌else◌, ◌==◌}
-use Rattle.rt_plain.specs.State.{State, ArmedRow, Alarm}
+use Rattle.rt_plain.specs.State.{State, ArmedRow, Alarm, OfThread}
 use Rattle.rt_plain.specs.Effects.{without_alarm}
+use Rattle.rt_kernel.specs.declared.armed.Armed.{Armed}
+
+-- the row of a wait
+abbrev pub plain_armed : Armed → ArmedRow Alarm
+plain_armed a = record { due = a.due; number = a.number; alarm = OfThread a.thread }
 
 -- the row whose number is less, the second one of equals
 abbrev pub earlier : ArmedRow Alarm → Option (ArmedRow Alarm) → ArmedRow Alarm

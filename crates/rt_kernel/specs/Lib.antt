@@ -5,17 +5,10 @@ pub mod Due
 pub mod Followed
 pub mod Inside
 pub mod Limits
-pub mod Listed
-pub mod ObjectRows
-pub mod Opened
 pub mod Own
 pub mod Plain
 pub mod Prio
 pub mod Seen
-pub mod Shown
 pub mod Switched
-pub mod Tabled
-pub mod Threads
-pub mod Tied
 pub mod View
 pub mod Wake

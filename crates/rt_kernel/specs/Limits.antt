@@ -1,7 +1,7 @@
 -- How many objects there may be of the classes that threads wait for.
 use Rattle.std.specs.Prelude.{ℕ}
 use Rattle.rt_plain.specs.PlainBoard.{PlainBoard}
-use Rattle.rt_kernel.specs.Tabled.{Tabled}
+use Rattle.kernel_tables.specs.Tabled.{Tabled}
 
 pub record ObjectLimits : Type 0 where
   pub sem : ℕ

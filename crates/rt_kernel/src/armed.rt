@@ -3,8 +3,7 @@ ghost use Rattle.rt_plain.specs.State.{OfThread};
 ghost use Rattle.rt_plain.specs.Effects.{is_alarm};
 ghost use Rattle.rt_plain.specs.Sleeps.{is_empty};
 ghost use Rattle.std.specs.Option.{option_map};
-ghost use Rattle.rt_kernel.specs.Due.{earlier, least_due};
-ghost use Rattle.rt_kernel.specs.Threads.{plain_armed};
+ghost use Rattle.rt_kernel.specs.Due.{earlier, least_due, plain_armed};
 
 use rt_base::ThreadNo;
 use std::alloc::{AllocError, Global};
@@ -69,7 +68,7 @@ pub struct ArmedRows {
 impl Model for ArmedRows {
     ghost use Rattle.std.specs.Prelude.{List, ◌≤◌, vec_capacity, map};
     ghost use Rattle.rt_plain.specs.State.{ArmedRow, Alarm};
-    ghost use Rattle.rt_kernel.specs.Threads.{plain_armed};
+    ghost use Rattle.rt_kernel.specs.Due.{plain_armed};
 
     ghost Value = { List (ArmedRow Alarm) };
 

@@ -5,7 +5,7 @@ ghost use Rattle.rt_kernel.specs.Built.{is_built_call};
 ghost use Rattle.rt_kernel.specs.Called.{plain_answer};
 ghost use Rattle.rt_kernel.specs.Limits.{limits_of, board_limits};
 ghost use Rattle.rt_kernel.specs.Own.{own_effect, begun, next_call};
-ghost use Rattle.rt_kernel.specs.Threads.{row_at};
+ghost use Rattle.kernel_tables.specs.Threads.{row_at};
 ghost use Rattle.rt_kernel.specs.View.{state_of};
 
 use crate::answer::Answer;

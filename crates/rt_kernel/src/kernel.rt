@@ -23,7 +23,7 @@ ghost use Rattle.rt_kernel.specs.Own.{begun};
 ghost use Rattle.rt_kernel.specs.Plain.{is_plain};
 ghost use Rattle.rt_kernel.specs.Seen.{DoesNext, MayCall, IsAlone};
 ghost use Rattle.rt_kernel.specs.Switched.{switched, effect_or, AreNumbers};
-ghost use Rattle.rt_kernel.specs.Threads.{row_at, ArePlain};
+ghost use Rattle.kernel_tables.specs.Threads.{row_at, ArePlain};
 ghost use Rattle.rt_kernel.specs.View.{state_of};
 
 use crate::answer::{Answer, By};

@@ -4,7 +4,7 @@ ghost use Rattle.rt_plain.specs.Outcome.{silent_success, first_wait_outcome};
 ghost use Rattle.rt_plain.specs.Effects.{each_effect};
 ghost use Rattle.rt_kernel.specs.Called.{called, plain_answer};
 ghost use Rattle.rt_kernel.specs.Limits.{limits_of};
-ghost use Rattle.rt_kernel.specs.Tabled.{knows};
+ghost use Rattle.kernel_tables.specs.Tabled.{knows};
 ghost use Rattle.rt_kernel.specs.View.{state_of};
 ghost use Rattle.rt_kernel.specs.Wake.{follow_effect};
 

@@ -4,7 +4,7 @@ ghost use Rattle.rt_plain.specs.Words.{code_text};
 ghost use Rattle.rt_plain.specs.Statements.{plain_effect, said_text, target};
 ghost use Rattle.rt_kernel.specs.Limits.{limits_of};
 ghost use Rattle.rt_kernel.specs.Plain.{is_plain, printed, plain_did};
-ghost use Rattle.rt_kernel.specs.Threads.{row_at};
+ghost use Rattle.kernel_tables.specs.Threads.{row_at};
 ghost use Rattle.rt_kernel.specs.View.{state_of};
 
 use crate::records::Records;

@@ -7,14 +7,11 @@ ghost use Rattle.rt_plain.specs.ThreadCalls.{start_effect, suspended_state};
 ghost use Rattle.rt_plain.specs.Owners.{close_effect, withdrawn_state};
 ghost use Rattle.rt_kernel.specs.Followed.{followed};
 ghost use Rattle.rt_kernel.specs.Limits.{limits_of};
-ghost use Rattle.rt_kernel.specs.Tabled.{knows};
+ghost use Rattle.kernel_tables.specs.Tabled.{knows};
 ghost use Rattle.rt_kernel.specs.View.{state_of};
 
 use crate::armed::{Armed, ArmedRows};
-use crate::place::Place;
-use crate::queue::Queue;
-use crate::tables::Tables;
-use crate::woken::WokenThreads;
+use kernel_tables::{Place, Queue, Tables, WokenThreads};
 use rt_base::{Code, Name, ThreadNo};
 use rt_plain::{Call, Line, Lines, Woke};
 

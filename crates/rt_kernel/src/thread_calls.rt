@@ -6,13 +6,27 @@ ghost use Rattle.rt_plain.specs.Outcome.{ByThread, refusal, may_not_wait};
 ghost use Rattle.rt_plain.specs.ThreadCalls.{delay, yield as yield_call, startup, suspend as suspend_call, resume, kill, set_prio, sched_lock, sched_unlock, may_suspend};
 ghost use Rattle.rt_kernel.specs.Called.{called, plain_answer};
 ghost use Rattle.rt_kernel.specs.Limits.{limits_of};
-ghost use Rattle.rt_kernel.specs.Prio.{prio_called};
+ghost use Rattle.rt_kernel.specs.Prio.{prio_called, to_end};
 ghost use Rattle.rt_kernel.specs.View.{state_of};
 
 use crate::answer::Answer;
 use crate::records::Records;
+use kernel_tables::Queue;
 use rt_base::{Code, Name, Prio, ThreadNo};
 use rt_plain::{Call, Line, Lines, Woke};
+
+// The thread goes to the end of a list, if it stands in the list.
+#[tactic(auto, using(crate::proofs::EndLemmas::ends))]
+fn move_last(list: &mut Queue, t: ThreadNo)
+    requires once { length (filter (λ u. u == t) list.old) ≤ 1 }
+    requires room { length list.old < 512 }
+    ensures { list.new ≡ to_end t list.old }
+{
+    if list.holds(t) {
+        list.remove(t);
+        list.push_last(t);
+    }
+}
 
 impl Records {
     // The thread of this name which hasn't ended.
@@ -288,7 +302,7 @@ impl Records {
         self.tables.set_code(t, Code::Ok);
         if old.0 != prio.0 {
             out.push(Line::Cur(name, old, prio));
-            self.ready.move_last(u);
+            move_last(&mut self.ready, u);
         }
         Answer::Code(Code::Ok)
     }

@@ -3,12 +3,10 @@ ghost use Rattle.rt_plain.specs.State.{is_running};
 ghost use Rattle.rt_plain.specs.Opening.{new_console};
 ghost use Rattle.rt_plain.specs.PowerCalls.{votes_for as plain_votes, sleep_mode};
 ghost use Rattle.rt_plain.specs.Rows.{rows as plain_rows, thread_row, device_row};
-ghost use Rattle.rt_kernel.specs.Shown.{shown};
 ghost use Rattle.rt_kernel.specs.View.{state_of};
 
 use crate::kernel::Kernel;
 use crate::records::Records;
-use crate::rows::Rows;
 use rt_base::{Class, Name, Sleep, ThreadNo};
 use rt_plain::{Row, View};
 
@@ -25,45 +23,6 @@ fn console_row() -> Row
         opened: 1,
         rx: 0,
         tx: 0,
-    }
-}
-
-impl Rows {
-    // How many threads haven't ended.
-    #[tactic(auto, using(crate::proofs::ViewLemmas::shows))]
-    fn shown_count(&self) -> usize
-        ensures count { result ≡ length (shown self.now) }
-        ensures few { result ≤ 256 }
-    {
-        let mut count = 0;
-        for t in 0..self.len() {
-            if !self.is_closed(ThreadNo(t as u16)) {
-                count += 1;
-            }
-        }
-        count
-    }
-
-    // The thread at a place among those that haven't ended, counted from the newest one.
-    #[tactic(auto, using(crate::proofs::ViewLemmas::shows))]
-    fn shown_at(&self, place: usize) -> ThreadNo
-        requires { place < length (shown self.now) }
-        ensures is { slice_get (shown self.now) place ≡ Some result }
-        ensures there { result < length self.now }
-    {
-        let mut newer = place;
-        let mut i = self.len();
-        while i > 0 {
-            i -= 1;
-            let t = ThreadNo(i as u16);
-            if !self.is_closed(t) {
-                if newer == 0 {
-                    return t;
-                }
-                newer -= 1;
-            }
-        }
-        unreachable!()
     }
 }
 

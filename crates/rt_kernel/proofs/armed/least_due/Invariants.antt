@@ -1,7 +1,6 @@
 use Rattle.std.proofs.Common.{◌≡◌, ◌≤◌, length, drop, map}
 use Rattle.std.specs.Option.{option_map}
-use Rattle.rt_kernel.specs.Due.{least_due}
-use Rattle.rt_kernel.specs.Threads.{plain_armed}
+use Rattle.rt_kernel.specs.Due.{least_due, plain_armed}
 use Rattle.rt_kernel.proofs.armed.least_due.Given as goal
 
 -- the first of those from i on

@@ -8,7 +8,7 @@ use Rattle.rt_kernel.specs.Seen.{KernelSeen, DoesNext}
 use Rattle.rt_kernel.specs.View.{state_of}
 use Rattle.rt_plain.specs.Statements.{script_of, statement_effect}
 use Rattle.rt_kernel.specs.Plain.{plain_did}
-use Rattle.rt_kernel.specs.Threads.{row_at}
+use Rattle.kernel_tables.specs.Threads.{row_at}
 use Rattle.rt_kernel.proofs.BuiltLemmas.{script-short}
 use Rattle.rt_kernel.proofs.KeptLemmas.{stated-kept}
 use Rattle.rt_kernel.proofs.StatementLemmas.{plain_is, first_core}

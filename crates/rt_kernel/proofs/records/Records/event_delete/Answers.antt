@@ -7,8 +7,8 @@ use Rattle.rt_plain.specs.Outcome.{Outcome, Answers}
 use Rattle.rt_plain.specs.Statements.{with_answer}
 use Rattle.rt_plain.proofs.TallyLemmas.{all-weaker}
 use Rattle.rt_kernel.specs.Called.{called}
-use Rattle.rt_kernel.specs.Tabled.{Tabled, without_event}
-use Rattle.rt_kernel.specs.Threads.{row_at}
+use Rattle.kernel_tables.specs.Tabled.{Tabled, without_event}
+use Rattle.kernel_tables.specs.Threads.{row_at}
 use Rattle.rt_kernel.specs.View.{state_of}
 use Rattle.rt_kernel.specs.Wake.{follow_effect}
 use Rattle.rt_kernel.proofs.EventCallLemmas.{event-deletes}

@@ -6,7 +6,7 @@ use Rattle.rt_plain.specs.EventCalls.{Want}
 use Rattle.rt_plain.specs.Outcome.{Outcome, first_wait_outcome}
 use Rattle.ipc_counts.specs.Flags.{plain_want}
 use Rattle.rt_kernel.specs.Called.{called}
-use Rattle.rt_kernel.specs.Tabled.{Tabled, found_event}
+use Rattle.kernel_tables.specs.Tabled.{Tabled, found_event}
 use Rattle.rt_kernel.specs.View.{state_of}
 use Rattle.rt_kernel.proofs.EventCallLemmas.{none-received, recv-waits}
 use Rattle.rt_kernel.proofs.WakeLemmas.{on}

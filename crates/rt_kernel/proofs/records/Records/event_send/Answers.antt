@@ -7,7 +7,7 @@ use Rattle.rt_plain.specs.Outcome.{Outcome, Answers}
 use Rattle.rt_plain.specs.Statements.{with_answer}
 use Rattle.rt_plain.proofs.TallyLemmas.{all-weaker}
 use Rattle.rt_kernel.specs.Called.{called}
-use Rattle.rt_kernel.specs.Tabled.{Tabled}
+use Rattle.kernel_tables.specs.Tabled.{Tabled}
 use Rattle.rt_kernel.specs.View.{state_of}
 use Rattle.rt_kernel.specs.Wake.{follow_effect}
 use Rattle.rt_kernel.proofs.EventCallLemmas.{event-sends}

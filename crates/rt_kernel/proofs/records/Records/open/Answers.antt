@@ -1,6 +1,6 @@
 use Rattle.std.proofs.Common.{◌∙◌, ap, refl, None}
 use Rattle.rt_kernel.specs.declared.records.Records.{Records}
-use Rattle.rt_kernel.specs.Tabled.{Tabled}
+use Rattle.kernel_tables.specs.Tabled.{Tabled}
 use Rattle.rt_kernel.proofs.OpenLemmas.{opened, first_ready}
 use Rattle.rt_kernel.proofs.records.Records.open.Goals as goal
 

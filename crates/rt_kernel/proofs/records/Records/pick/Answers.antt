@@ -1,7 +1,7 @@
 use Rattle.std.proofs.Common.{◌≤◌, length, sym, ◌∙◌, subst, arith}
 use Rattle.rt_kernel.specs.View.{state_of}
 use Rattle.rt_kernel.specs.Best.{base_of}
-use Rattle.rt_kernel.specs.Threads.{ArePlain}
+use Rattle.kernel_tables.specs.Threads.{ArePlain}
 use Rattle.rt_kernel.proofs.PickLemmas.{pick_kernel, best_end}
 use Rattle.rt_kernel.proofs.records.Records.pick.Goals as goal
 

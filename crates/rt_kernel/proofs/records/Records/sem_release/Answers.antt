@@ -6,8 +6,8 @@ use Rattle.rt_plain.specs.State.{Thread}
 use Rattle.rt_plain.specs.Outcome.{Outcome, Answers, refusal}
 use Rattle.rt_plain.specs.Statements.{with_answer}
 use Rattle.rt_kernel.specs.Called.{called}
-use Rattle.rt_kernel.specs.Tabled.{Tabled, Releases}
-use Rattle.rt_kernel.specs.Threads.{row_at}
+use Rattle.kernel_tables.specs.Tabled.{Tabled, Releases}
+use Rattle.kernel_tables.specs.Threads.{row_at}
 use Rattle.rt_kernel.specs.View.{state_of}
 use Rattle.rt_kernel.specs.Wake.{follow_effect}
 use Rattle.rt_kernel.proofs.SemCallLemmas.{release-full, release-raised, release-woke}

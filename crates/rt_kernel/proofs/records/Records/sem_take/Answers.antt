@@ -4,7 +4,7 @@ use Rattle.rt_plain.specs.declared.stmt.Call.{Call}
 use Rattle.rt_plain.specs.State.{Sem}
 use Rattle.rt_plain.specs.Outcome.{Outcome, first_wait_outcome}
 use Rattle.rt_kernel.specs.Called.{called}
-use Rattle.rt_kernel.specs.Tabled.{Tabled, found_sem}
+use Rattle.kernel_tables.specs.Tabled.{Tabled, found_sem}
 use Rattle.rt_kernel.specs.View.{state_of}
 use Rattle.rt_kernel.proofs.SemCallLemmas.{none-taken, take-waits}
 use Rattle.rt_kernel.proofs.WakeLemmas.{on}

@@ -3,7 +3,7 @@ use Rattle.std.proofs.lemmas.Option.{slice_get-map}
 use Rattle.rt_plain.specs.State.{State, Thread}
 use Rattle.rt_plain.specs.Rows.{rows, thread_row}
 use Rattle.rt_kernel.specs.Seen.{KernelSeen}
-use Rattle.rt_kernel.specs.Shown.{shown}
+use Rattle.kernel_tables.specs.Shown.{shown}
 use Rattle.rt_kernel.specs.View.{state_of}
 use Rattle.rt_kernel.proofs.ObjectRowLemmas.{sem_rows_at, event_rows_at}
 use Rattle.rt_kernel.proofs.view.KernelView.row.Goals as goal

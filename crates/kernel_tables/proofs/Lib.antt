@@ -1,0 +1,12 @@
+pub mod CreateLemmas
+pub mod EmptyLemmas
+pub mod EventLemmas
+pub mod FoundLemmas
+pub mod ListLemmas
+pub mod ObjectRowLemmas
+pub mod OpenLemmas
+pub mod RowLemmas
+pub mod SemLemmas
+pub mod ShownLemmas
+pub mod TableLemmas
+pub mod TiedLemmas

@@ -1,0 +1,7 @@
+use Rattle.std.proofs.Common.{◌≡◌, map, reverse, take}
+use Rattle.rt_plain.specs.Opening.{new_event}
+use Rattle.kernel_tables.proofs.tables.Tables.create_events.Given as goal
+
+-- those of the definitions so far
+abbrev pub invariant-loop-def : goal.invariant-loop-def
+invariant-loop-def l = l.self ≡ record l.fn.self { events = reverse (map new_event (take l.def-index l.defs)) }

@@ -1,0 +1,7 @@
+pub mod Listed
+pub mod ObjectRows
+pub mod Opened
+pub mod Shown
+pub mod Tabled
+pub mod Threads
+pub mod Tied

@@ -1,9 +1,0 @@
-use Rattle.std.proofs.Common.{◌≡◌, filter, not}
-use Rattle.std.specs.List.{range_with_len}
-use Rattle.rt_plain.specs.State.{is_initial}
-use Rattle.rt_kernel.specs.Threads.{row_at}
-use Rattle.rt_kernel.proofs.open.start.Given as goal
-
--- those of the threads so far that aren't initial
-abbrev pub invariant-loop-t : goal.invariant-loop-t
-invariant-loop-t l = l.ready ≡ filter (λ t. not (is_initial (row_at l.threads t).stage)) (range_with_len 0 l.t)

@@ -1,7 +1,0 @@
-use Rattle.std.proofs.Common.{refl}
-use Rattle.rt_kernel.specs.Tabled.{woken_row}
-use Rattle.rt_kernel.proofs.RowLemmas.{written}
-use Rattle.rt_kernel.proofs.rows.Rows.wake.Goals as goal
-
-pub returns : goal.returns
-returns c = written _ _ _ _ _ _ (woken_row c.args.code) c.self.view_is c.t.view_is c.requires c.index_mut-row.ensures.value refl

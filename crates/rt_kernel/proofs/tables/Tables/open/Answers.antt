@@ -1,6 +1,0 @@
-use Rattle.std.proofs.Common.{◌∙◌}
-use Rattle.rt_kernel.proofs.EmptyLemmas.{tied_empty}
-use Rattle.rt_kernel.proofs.tables.Tables.open.Goals as goal
-
-pub invariant_of-tables : goal.invariant_of-tables
-invariant_of-tables c = tied_empty c.new-rows.result c.as_slice.result.now c.in_ok-lists.lists _ _ c.len-threads.result c.in_ok-lists.ensures c.len-threads.ensures.len (c.new-rows.ensures ∙ c.in_ok-rows_of.ensures)

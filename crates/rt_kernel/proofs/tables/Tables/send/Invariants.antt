@@ -1,9 +1,0 @@
-use Rattle.std.proofs.Common.{◌≡◌}
-use Rattle.rt_kernel.proofs.EventLemmas.{IsGiving}
-use Rattle.rt_kernel.proofs.tables.Tables.send.Given as goal
-
-abbrev pub invariant-loop-i : goal.invariant-loop-i
-invariant-loop-i l = record {
-  giving : IsGiving l.initial.self-inside.rows l.self-inside.rows l.woken l.i;
-  lists : l.self-inside.lists ≡ l.initial.self-inside.lists;
-}
