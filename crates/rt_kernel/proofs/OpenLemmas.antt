@@ -1,5 +1,5 @@
 -- A built board at its opening.
-use Rattle.std.proofs.Common.{◌≡◌, ◌&&◌, arith, is_some, List, [], ◌∷◌, Option, Some, None, Bool, true, false, not, refl, sym, subst, length, map, filter}
+use Rattle.std.proofs.Common.{◌≡◌, ℕ, ◌&&◌, arith, is_some, List, [], ◌∷◌, Option, Some, None, Bool, true, false, not, refl, sym, subst, length, map, filter}
 use Rattle.std.specs.List.{list_all, range_with_len, AllByRecursion}
 use Rattle.rt_plain.specs.declared.board.ThreadDef.{ThreadDef}
 use Rattle.rt_plain.specs.PlainBoard.{PlainBoard}

@@ -104,7 +104,7 @@ fn step<L: Ledger>(
 // A tick at which at most one wait ends.
 fn tick<L: Ledger>(rt: &impl Abort, kernel: &mut Kernel, out: &mut Lines, steps: &mut Steps<L>) {
     assert!(rt; kernel.take_due(steps).is_none());
-    assert!(rt; kernel.tick() < 100);
+    assert!(rt; kernel.moment() < 100);
     kernel.begin_tick();
     assert!(rt; out.spare() >= 2);
     if let Some(no) = kernel.take_due(steps) {
