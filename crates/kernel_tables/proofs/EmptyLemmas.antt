@@ -1,19 +1,22 @@
 -- Before the first object is made, nobody waits.
-use Rattle.std.proofs.Common.{◌≡◌, ℕ, zero, suc, ◌+◌, arith, is_some, List, [], ◌∷◌, ◌++◌, Option, None, Bool, true, false, cond, refl, sym, ap, ◌∙◌, subst, length, map, replicate}
+use Rattle.std.proofs.Common.{◌≡◌, ℕ, zero, suc, ◌+◌, ◌<◌, arith, is_some, List, [], ◌∷◌, ◌++◌, Option, None, Bool, true, false, cond, refl, sym, ap, ◌∙◌, subst, length, map, replicate}
 use Rattle.std.proofs.lemmas.List.{length-append}
 use Rattle.std.proofs.lemmas.List.Elements.{All-push}
 use Rattle.rt_plain.specs.declared.board.ThreadDef.{ThreadDef}
 use Rattle.rt_plain.specs.declared.stmt.Call.{Call}
 use Rattle.rt_plain.specs.State.{Thread, Stage, Initial, Active, Waiting, Suspended, Closed, InCall}
-use Rattle.rt_plain.specs.Waiting.{number_in, takes_sem, receives_event}
+use Rattle.rt_plain.specs.Waiting.{number_in}
 use Rattle.rt_plain.specs.Opening.{new_script_thread}
 use Rattle.susp_list.specs.Rows.{Waits}
 use Rattle.susp_list.specs.declared.row.Row.{Row as WaitRow}
 use Rattle.object_box.specs.declared.object.Object.{Object}
 use Rattle.object_box.specs.Classes.{AllObjects}
+use Rattle.object_box.specs.Objects.{IsSound}
 use Rattle.ipc_counts.specs.Flags.{Flagged}
 use Rattle.kernel_tables.specs.declared.lists.Lists.{Lists}
-use Rattle.kernel_tables.specs.Listed.{sem_at, event_at, row_with, wait_row, calls_on, is_known}
+use Rattle.kernel_tables.specs.Listed.{row_with, wait_row, waits_in, slots_in}
+use Rattle.kernel_tables.specs.WaitLists.{waits_for, objects_in, calls_on, calls_in, is_known}
+use Rattle.kernel_tables.specs.declared.wait_list.WaitList.{WaitList}
 use Rattle.kernel_tables.specs.Opened.{AreFreeEvents, AreEmpty, empty_waits}
 use Rattle.kernel_tables.specs.Tied.{IsTied}
 use Rattle.kernel_tables.specs.Threads.{row_at}
@@ -58,16 +61,30 @@ empty_rows w in_list threads n never count empty = ap (λ (v : Waits). v.rows) e
 
 -- the tables of a board without objects
 pub tied_empty : (threads : List Thread) (defs : List ThreadDef) (l : Lists) (sems events n : ℕ) → AreEmpty l sems events n → n ≡ length threads → threads ≡ map new_script_thread defs → IsTied threads l
-tied_empty threads defs l sems events n empty count are =
-    let no_sem : (i : ℕ) (call : Call) → calls_on takes_sem l.objects.sem.objects i call ≡ false = λ i call. no_call takes_sem l.objects.sem.objects i call empty.sem_objects in
-    let no_event : (i : ℕ) (call : Call) → calls_on receives_event l.objects.event.objects i call ≡ false = λ i call. no_call receives_event l.objects.event.objects i call empty.event_objects in
-    record {
-      sems_len = empty.free_sems.len ∙ sym empty.sem_limit;
-      events_len = empty.free_events.len ∙ sym empty.event_limit;
-      sems_sound = empty.sems_sound;
-      events_sound = empty.events_sound;
-      sem_rows = λ i there. empty_rows (sem_at l.sems.items i).waiters (calls_on takes_sem l.objects.sem.objects i) threads n (no_sem i) count (empty.free_sems.free i _ there);
-      event_rows = λ i there. empty_rows (event_at l.events.items i).waiters (calls_on receives_event l.objects.event.objects i) threads n (no_event i) count (empty.free_events.free i _ there);
-      wants = λ i t there is waits. let none : is_some (wait_row (calls_on receives_event l.objects.event.objects i) (row_at threads t)) ≡ false = ap is_some (no_row (calls_on receives_event l.objects.event.objects i) (row_at threads t) (no_event i)) in absurd (cc (none, waits));
-      known = λ t. subst (λ all. is_known l.objects (row_at all t).stage ≡ true) (sym are) (known l.objects defs t);
-    }
+tied_empty threads defs l sems events n empty count are = record {
+  slots = by_slots;
+  lists = record {
+    sound = by_sound;
+    rows = λ list i below. empty_rows (waits_in l list i) (calls_in l.objects list i) threads n (nobody list i) count (by_waits list i below);
+    known = λ t. subst (λ all. is_known l.objects (row_at all t).stage ≡ true) (sym are) (known l.objects defs t);
+  };
+  wants = λ i t there is waits. let none : is_some (wait_row (calls_in l.objects WaitList.Event i) (row_at threads t)) ≡ false = ap is_some (no_row (calls_in l.objects WaitList.Event i) (row_at threads t) (nobody WaitList.Event i)) in absurd (cc (none, waits));
+} where
+  by_slots : (list : WaitList) → slots_in l list ≡ (objects_in l.objects list).limit
+  by_slots WaitList.Sem = empty.free_sems.len ∙ sym empty.sem_limit
+  by_slots WaitList.Event = empty.free_events.len ∙ sym empty.event_limit
+
+  by_sound : (list : WaitList) → IsSound (objects_in l.objects list)
+  by_sound WaitList.Sem = empty.sems_sound
+  by_sound WaitList.Event = empty.events_sound
+
+  by_objects : (list : WaitList) → (objects_in l.objects list).objects ≡ []
+  by_objects WaitList.Sem = empty.sem_objects
+  by_objects WaitList.Event = empty.event_objects
+
+  by_waits : (list : WaitList) (i : ℕ) → i < (objects_in l.objects list).limit → waits_in l list i ≡ empty_waits n
+  by_waits WaitList.Sem i below = empty.free_sems.free i _ (subst (λ m. i < m) (sym (by_slots WaitList.Sem)) below)
+  by_waits WaitList.Event i below = empty.free_events.free i _ (subst (λ m. i < m) (sym (by_slots WaitList.Event)) below)
+
+  nobody : (list : WaitList) (i : ℕ) (call : Call) → calls_in l.objects list i call ≡ false
+  nobody list i call = no_call (waits_for list) (objects_in l.objects list).objects i call (by_objects list)

@@ -17,7 +17,8 @@ use Rattle.object_box.specs.Classes.{AllObjects}
 use Rattle.object_box.specs.declared.object.Object.{Object}
 use Rattle.object_box.specs.Objects.{ClassObjects, IsSound, has_number, number_of}
 use Rattle.object_box.proofs.ObjectLemmas.{number_below}
-use Rattle.kernel_tables.specs.Listed.{calls_on, is_there, wait_row, row_with, is_known, is_known_call}
+use Rattle.kernel_tables.specs.Listed.{wait_row, row_with}
+use Rattle.kernel_tables.specs.WaitLists.{calls_on, is_there, is_known, is_known_call}
 use Rattle.kernel_tables.specs.Tabled.{base_waiter}
 use Rattle.kernel_tables.specs.Threads.{row_at}
 use Rattle.kernel_tables.proofs.TiedLemmas.{tied-line, line-same}

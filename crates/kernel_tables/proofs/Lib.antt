@@ -2,7 +2,9 @@ pub mod CreateLemmas
 pub mod EmptyLemmas
 pub mod EventLemmas
 pub mod FoundLemmas
+pub mod ListChangeLemmas
 pub mod ListLemmas
+pub mod MadeLemmas
 pub mod ObjectRowLemmas
 pub mod OpenLemmas
 pub mod RowLemmas
@@ -10,3 +12,5 @@ pub mod SemLemmas
 pub mod ShownLemmas
 pub mod TableLemmas
 pub mod TiedLemmas
+pub mod WaitListLemmas
+pub mod WokenLemmas

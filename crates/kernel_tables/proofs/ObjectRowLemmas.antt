@@ -1,5 +1,5 @@
 -- The rows of the tables of semaphores and of event objects.
-use Rattle.std.proofs.Common.{◌≡◌, ◌<◌, ◌||◌, ℕ, zero, suc, List, [], ◌∷◌, Option, Some, None, Bool, true, false, cond, refl, sym, ap, ◌∙◌, subst, arith, length, map, slice_get, slice_index_or, option_map}
+use Rattle.std.proofs.Common.{◌≡◌, ◌<◌, ◌||◌, ℕ, zero, suc, List, [], ◌∷◌, Some, Bool, true, false, cond, refl, sym, ap, ◌∙◌, subst, length, map, slice_get, slice_index_or, option_map}
 use Rattle.std.specs.Prelude.{find}
 use Rattle.std.specs.Str.{bytes_eq}
 use Rattle.std.proofs.lemmas.Bool.{false≢true}
@@ -15,7 +15,9 @@ use Rattle.object_box.specs.Objects.{ClassObjects, IsSound, number_of}
 use Rattle.ipc_counts.specs.Counted.{Counted}
 use Rattle.ipc_counts.specs.Flags.{Flagged}
 use Rattle.kernel_tables.specs.declared.lists.Lists.{Lists}
-use Rattle.kernel_tables.specs.Listed.{sem_at, event_at, plain_sem, plain_event, plain_sems, plain_events, wait_row, calls_on, is_there, no_waits}
+use Rattle.kernel_tables.specs.Listed.{sem_at, event_at, plain_sem, plain_event, plain_sems, plain_events, wait_row, no_waits}
+use Rattle.kernel_tables.specs.WaitLists.{calls_on, is_there}
+use Rattle.kernel_tables.specs.declared.wait_list.WaitList.{WaitList}
 use Rattle.kernel_tables.specs.ObjectRows.{sem_shown, event_shown}
 use Rattle.kernel_tables.specs.Tabled.{line_of}
 use Rattle.kernel_tables.specs.Tied.{IsTied}
@@ -59,9 +61,10 @@ placed_line threads c waits_for w place o sound at rows =
 pub sem_row_is : (threads : List Thread) (l : Lists) (place : ℕ) (o : Object) (sem : Counted) → IsTied threads l → slice_get l.objects.sem.objects place ≡ Some o → sem ≡ slice_index_or l.sems.items o.no sem
     → option_map (sem_shown threads) (slice_get (plain_sems l) place) ≡ Some (Row.Sem o.name sem.value (length (line sem.waiters)))
 sem_row_is threads l place o sem tied at is =
-    let within : o.no < length l.sems.items = omega (arith, placed_below l.objects.sem place o tied.sems_sound at, tied.sems_len) in
+    let below : o.no < l.objects.sem.limit = placed_below l.objects.sem place o (tied.lists.sound WaitList.Sem) at in
+    let within : o.no < length l.sems.items = subst (λ n. o.no < n) (sym (tied.slots WaitList.Sem)) below in
     let same : sem_at l.sems.items o.no ≡ sem = get_or_default l.sems.items o.no (record { value = 0; waiters = no_waits }) sem within ∙ sym is in
-    let lined : line (sem_at l.sems.items o.no).waiters ≡ line_of threads (sem_at l.sems.items o.no).waiters.order (takes_sem o.name) = placed_line threads l.objects.sem takes_sem (sem_at l.sems.items o.no).waiters place o tied.sems_sound at (tied.sem_rows o.no within) in
+    let lined : line (sem_at l.sems.items o.no).waiters ≡ line_of threads (sem_at l.sems.items o.no).waiters.order (takes_sem o.name) = placed_line threads l.objects.sem takes_sem (sem_at l.sems.items o.no).waiters place o (tied.lists.sound WaitList.Sem) at (tied.lists.rows WaitList.Sem o.no below) in
     ap (option_map (sem_shown threads)) (slice_get-map (plain_sem l.sems.items) l.objects.sem.objects place ∙ ap (option_map (plain_sem l.sems.items)) at)
     ∙ ap (λ (ts : List ℕ). Some (Row.Sem o.name (sem_at l.sems.items o.no).value (length ts))) (sym lined)
     ∙ ap (λ (c : Counted). Some (Row.Sem o.name c.value (length (line c.waiters)))) same
@@ -70,9 +73,10 @@ sem_row_is threads l place o sem tied at is =
 pub event_row_is : (threads : List Thread) (l : Lists) (place : ℕ) (o : Object) (event : Flagged) → IsTied threads l → slice_get l.objects.event.objects place ≡ Some o → event ≡ slice_index_or l.events.items o.no event
     → option_map (event_shown threads) (slice_get (plain_events l) place) ≡ Some (Row.Event o.name event.flags (length (line event.waiters)))
 event_row_is threads l place o event tied at is =
-    let within : o.no < length l.events.items = omega (arith, placed_below l.objects.event place o tied.events_sound at, tied.events_len) in
+    let below : o.no < l.objects.event.limit = placed_below l.objects.event place o (tied.lists.sound WaitList.Event) at in
+    let within : o.no < length l.events.items = subst (λ n. o.no < n) (sym (tied.slots WaitList.Event)) below in
     let same : event_at l.events.items o.no ≡ event = get_or_default l.events.items o.no (record { flags = 0; waiters = no_waits; wants = [] }) event within ∙ sym is in
-    let lined : line (event_at l.events.items o.no).waiters ≡ line_of threads (event_at l.events.items o.no).waiters.order (receives_event o.name) = placed_line threads l.objects.event receives_event (event_at l.events.items o.no).waiters place o tied.events_sound at (tied.event_rows o.no within) in
+    let lined : line (event_at l.events.items o.no).waiters ≡ line_of threads (event_at l.events.items o.no).waiters.order (receives_event o.name) = placed_line threads l.objects.event receives_event (event_at l.events.items o.no).waiters place o (tied.lists.sound WaitList.Event) at (tied.lists.rows WaitList.Event o.no below) in
     ap (option_map (event_shown threads)) (slice_get-map (plain_event l.events.items) l.objects.event.objects place ∙ ap (option_map (plain_event l.events.items)) at)
     ∙ ap (λ (ts : List ℕ). Some (Row.Event o.name (event_at l.events.items o.no).flags (length ts))) (sym lined)
     ∙ ap (λ (e : Flagged). Some (Row.Event o.name e.flags (length (line e.waiters)))) same

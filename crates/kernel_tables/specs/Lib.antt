@@ -5,3 +5,4 @@ pub mod Shown
 pub mod Tabled
 pub mod Threads
 pub mod Tied
+pub mod WaitLists

@@ -1,21 +1,19 @@
 -- The objects of the classes that threads wait for, with who waits.
-use Rattle.std.specs.Prelude.{ℕ, ◌≡◌, ◌<◌, Bool, true, false, ◌&&◌, List, [], length, Option, Some, None, IfSome, IsTrue, map, slice_get, slice_set, slice_index_or, ◌==◌}
-use Rattle.std.specs.List.{list_any}
-use Rattle.std.specs.Str.{bytes_eq}
+use Rattle.std.specs.Prelude.{ℕ, ◌≡◌, ◌<◌, Bool, true, false, List, [], length, Option, Some, None, IfSome, IsTrue, map, slice_get, slice_set, slice_index_or, if◌then◌else◌}
 use Rattle.rt_base.specs.declared.codes.WaitOrder.{WaitOrder}
 use Rattle.rt_plain.specs.declared.stmt.Call.{Call}
-use Rattle.rt_plain.specs.State.{Thread, Stage, Waiting, InCall, Sem, EventObj}
+use Rattle.rt_plain.specs.State.{Thread, Sem, EventObj}
 use Rattle.rt_plain.specs.Waiting.{number_in}
 use Rattle.susp_list.specs.Rows.{Waits, holds, with_prio}
 use Rattle.susp_list.specs.declared.row.Row.{Row as WaitRow}
 use Rattle.object_box.specs.declared.object.Object.{Object}
-use Rattle.object_box.specs.Classes.{AllObjects}
-use Rattle.object_box.specs.Objects.{number_of}
 use Rattle.ipc_counts.specs.Counted.{Counted}
 use Rattle.ipc_counts.specs.Flags.{Flagged}
 use Rattle.ipc_counts.specs.Released.{without}
 use Rattle.ipc_counts.specs.declared.want.Want.{Want}
 use Rattle.kernel_tables.specs.declared.lists.Lists.{Lists}
+use Rattle.kernel_tables.specs.declared.wait_list.WaitList.{WaitList}
+use Rattle.kernel_tables.specs.WaitLists.{is_at}
 
 -- what stands where there is no wait list
 abbrev pub no_waits : Waits
@@ -51,89 +49,87 @@ row_with prio (Some number) = Some (record { prio = prio; at = number })
 abbrev pub wait_row : (Call → Bool) → Thread → Option WaitRow
 wait_row in_list thread = row_with thread.base (number_in in_list thread.stage)
 
--- the calls that wait for the object of a number, by its name
-abbrev pub calls_on : (List ℕ → Call → Bool) → List Object → ℕ → Call → Bool
-calls_on waits_for objects i call = list_any (λ o. (o.no == i) && waits_for o.name call) objects
-
--- whether there is an object of a name
-abbrev pub is_there : List Object → List ℕ → Bool
-is_there objects name = list_any (λ o. bytes_eq o.name name) objects
-
--- whether the object that a call waits for is there
-abbrev pub is_known_call : AllObjects → Call → Bool
-is_known_call a (Call.SemTake name timeout) = is_there a.sem.objects name
-is_known_call a (Call.EventRecv name mask all clear timeout) = is_there a.event.objects name
-is_known_call a _ = true
-
-abbrev pub is_known : AllObjects → Stage → Bool
-is_known a (Waiting (InCall call) number) = is_known_call a call
-is_known a _ = true
-
--- the number of the semaphore that a call waits for
-abbrev pub sem_no : AllObjects → Call → Option ℕ
-sem_no a (Call.SemTake name timeout) = number_of a.sem.objects name
-sem_no a _ = None
-
--- the number of the event object that a call waits for
-abbrev pub event_no : AllObjects → Call → Option ℕ
-event_no a (Call.EventRecv name mask all clear timeout) = number_of a.event.objects name
-event_no a _ = None
-
 -- the flags that a call wants
 abbrev pub want_in : Call → Want
 want_in (Call.EventRecv name mask all clear timeout) = record { mask = mask; all = all; clear = clear }
 want_in _ = record { mask = 0; all = true; clear = false }
 
--- the semaphores with a change in one of them, if there is one
-abbrev pub sems_with : List Counted → Option ℕ → (Counted → Counted) → List Counted
-sems_with sems None change = sems
-sems_with sems (Some i) change = slice_set sems i (change (sem_at sems i))
+-- the wait list of an object by its number
+abbrev pub waits_in : Lists → WaitList → ℕ → Waits
+waits_in l WaitList.Sem i = (sem_at l.sems.items i).waiters
+waits_in l WaitList.Event i = (event_at l.events.items i).waiters
 
--- the event objects with a change in one of them, if there is one
-abbrev pub events_with : List Flagged → Option ℕ → (Flagged → Flagged) → List Flagged
-events_with events None change = events
-events_with events (Some i) change = slice_set events i (change (event_at events i))
+-- how many objects there may be that have the list
+abbrev pub slots_in : Lists → WaitList → ℕ
+slots_in l WaitList.Sem = length l.sems.items
+slots_in l WaitList.Event = length l.events.items
 
--- a wait list with the row of a thread
-abbrev pub with_waiter : Waits → ℕ → Option WaitRow → Waits
-with_waiter w t row = record w { rows = slice_set w.rows t row }
+-- what the threads that wait for an event object want
+abbrev pub wants_in : Lists → ℕ → List Want
+wants_in l i = (event_at l.events.items i).wants
+
+-- a change of the waiters of one object, if there is one
+abbrev pub waits_with : Option (WaitList × ℕ) → (Waits → Waits) → (WaitList → ℕ → Waits) → WaitList → ℕ → Waits
+waits_with at change waits list i = if is_at list i at then change (waits list i) else waits list i
+
+abbrev pub sems_with : List Counted → Option (WaitList × ℕ) → (Waits → Waits) → List Counted
+sems_with sems (Some (WaitList.Sem, i)) change = slice_set sems i (record (sem_at sems i) { waiters = change (sem_at sems i).waiters })
+sems_with sems _ change = sems
+
+abbrev pub events_with : List Flagged → Option (WaitList × ℕ) → (Waits → Waits) → List Flagged
+events_with events (Some (WaitList.Event, i)) change = slice_set events i (record (event_at events i) { waiters = change (event_at events i).waiters })
+events_with events _ change = events
 
 -- without a thread
-abbrev pub sem_left : ℕ → Counted → Counted
-sem_left t c = record c { waiters = without c.waiters t }
+abbrev pub left : ℕ → Waits → Waits
+left t w = without w t
 
-abbrev pub event_left : ℕ → Flagged → Flagged
-event_left t e = record e { waiters = without e.waiters t }
+-- without the first one, where there is one
+abbrev pub taken : Option ℕ → Waits → Waits
+taken None w = w
+taken (Some t) w = without w t
 
 -- with a thread more
-abbrev pub sem_joined : ℕ → WaitRow → Counted → Counted
-sem_joined t row c = record c { waiters = with_waiter c.waiters t (Some row) }
-
-abbrev pub event_joined : ℕ → WaitRow → Want → Flagged → Flagged
-event_joined t row want e = record e { waiters = with_waiter e.waiters t (Some row); wants = slice_set e.wants t want }
+abbrev pub joined : ℕ → WaitRow → Waits → Waits
+joined t row w = record w { rows = slice_set w.rows t (Some row) }
 
 -- with another priority of a thread
-abbrev pub sem_moved : ℕ → ℕ → Counted → Counted
-sem_moved t prio c = record c { waiters = with_waiter c.waiters t (with_prio (slice_get c.waiters.rows t) prio) }
+abbrev pub moved : ℕ → ℕ → Waits → Waits
+moved t prio w = record w { rows = slice_set w.rows t (with_prio (slice_get w.rows t) prio) }
 
-abbrev pub event_moved : ℕ → ℕ → Flagged → Flagged
-event_moved t prio e = record e { waiters = with_waiter e.waiters t (with_prio (slice_get e.waiters.rows t) prio) }
+-- with a thread more, and what it wants
+abbrev pub events_joined : List Flagged → Option (WaitList × ℕ) → ℕ → WaitRow → Want → List Flagged
+events_joined events (Some (WaitList.Event, i)) t row want = slice_set events i (record (event_at events i) { waiters = joined t row (event_at events i).waiters; wants = slice_set (event_at events i).wants t want })
+events_joined events _ t row want = events
 
--- the same by the stage of a thread
-abbrev pub sem_no_at : AllObjects → Stage → Option ℕ
-sem_no_at a (Waiting (InCall call) number) = sem_no a call
-sem_no_at a _ = None
+-- the lists after such a change
+pub record IsRelisted (old new : Lists) (at : Option (WaitList × ℕ)) (change : Waits → Waits) : Type 0 where
+  pub objects : new.objects ≡ old.objects
+  pub sems : new.sems.items ≡ sems_with old.sems.items at change
+  pub events : new.events.items ≡ events_with old.events.items at change
 
-abbrev pub event_no_at : AllObjects → Stage → Option ℕ
-event_no_at a (Waiting (InCall call) number) = event_no a call
-event_no_at a _ = None
+-- the number of an event object in whose list this is
+abbrev pub event_in : Option (WaitList × ℕ) → Option ℕ
+event_in (Some (WaitList.Event, i)) = Some i
+event_in _ = None
 
--- the wait list in which a thread at this stage stands, if there is one, holds it
-pub record Holds (l : Lists) (t : ℕ) (stage : Stage) : Type 0 where
-  pub sem : IfSome (sem_no_at l.objects stage) (λ i. (i < length l.sems.items) × IsTrue (holds (sem_at l.sems.items i).waiters t))
-  pub event : IfSome (event_no_at l.objects stage) (λ i. (i < length l.events.items) × IsTrue (holds (event_at l.events.items i).waiters t))
+-- the lists after a thread went into one of them
+pub record IsJoined (old new : Lists) (at : Option (WaitList × ℕ)) (t : ℕ) (row : WaitRow) (want : Want) : Type 0 where
+  pub objects : new.objects ≡ old.objects
+  pub sems : new.sems.items ≡ sems_with old.sems.items at (joined t row)
+  pub events : new.events.items ≡ events_joined old.events.items at t row want
+  pub wanted : IfSome (event_in at) (λ i. slice_get (event_at new.events.items i).wants t ≡ Some want)
 
--- the wait list of a call, if it has one, has room for a thread, which it doesn't hold
-pub record MayJoin (l : Lists) (t : ℕ) (call : Call) : Type 0 where
-  pub sem : IfSome (sem_no l.objects call) (λ i. (i < length l.sems.items) × ((t < length (sem_at l.sems.items i).waiters.rows) × (holds (sem_at l.sems.items i).waiters t ≡ false)))
-  pub event : IfSome (event_no l.objects call) (λ i. (i < length l.events.items) × ((t < length (event_at l.events.items i).waiters.rows) × (holds (event_at l.events.items i).waiters t ≡ false)))
+-- the objects show the same
+pub record IsShownAs (old new : Lists) : Type 0 where
+  pub objects : new.objects ≡ old.objects
+  pub sems : map (plain_sem new.sems.items) old.objects.sem.objects ≡ plain_sems old
+  pub events : map (plain_event new.events.items) old.objects.event.objects ≡ plain_events old
+
+-- the list in which a thread stands, if there is one, holds it
+abbrev pub Holds : Lists → Option (WaitList × ℕ) → ℕ → Type 0
+Holds l at t = IfSome at (λ p. (p.1 < slots_in l p.0) × IsTrue (holds (waits_in l p.0 p.1) t))
+
+-- the list of a call, if it has one, has room for a thread, which it doesn't hold
+abbrev pub MayJoin : Lists → Option (WaitList × ℕ) → ℕ → Type 0
+MayJoin l at t = IfSome at (λ p. (p.1 < slots_in l p.0) × ((t < length (waits_in l p.0 p.1).rows) × (holds (waits_in l p.0 p.1) t ≡ false)))

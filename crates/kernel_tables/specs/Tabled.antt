@@ -1,5 +1,5 @@
 -- What contracts see of the tables of threads and objects, and what is done with them.
-use Rattle.std.specs.Prelude.{ℕ, Bool, true, false, ◌≡◌, ◌≢◌, ◌+◌, ◌-◌, ◌<◌, not, List, ◌∷◌, Option, Some, None, Result, Ok, Err, map, filter, fold, length, is_some, bit_and, bit_or, nat_lt, if◌then◌else◌}
+use Rattle.std.specs.Prelude.{ℕ, Bool, true, ◌≡◌, ◌≢◌, ◌+◌, ◌-◌, ◌<◌, not, List, ◌∷◌, Option, Some, None, Result, Ok, Err, map, filter, fold, length, is_some, bit_and, bit_or, nat_lt, if◌then◌else◌}
 use Rattle.std.specs.List.{find, filter_map, range_with_len}
 use Rattle.std.specs.Str.{bytes_eq}
 use Rattle.rt_base.specs.declared.codes.Code.{Code}
@@ -13,6 +13,7 @@ use Rattle.object_box.specs.declared.fault.Make.TheVariants.{Taken, ClassFull}
 use Rattle.ipc_counts.specs.declared.sem.SemReleased.{SemReleased}
 use Rattle.ipc_counts.specs.declared.sem.SemReleased.TheVariants.{Woke, Raised, Full}
 use Rattle.kernel_tables.specs.Threads.{row_at, with_row}
+use Rattle.kernel_tables.specs.WaitLists.{list_of}
 
 -- the threads by number, and the objects of each class, newest first, of which there may be so many
 pub record Tabled : Type 0 where
@@ -40,8 +41,7 @@ put_event events event = map (λ o. if bytes_eq o.name event.name then event els
 
 -- whether a thread at this stage waits for no object
 abbrev pub is_unlisted : Stage → Bool
-is_unlisted (Waiting (InCall (Call.SemTake name timeout)) number) = false
-is_unlisted (Waiting (InCall (Call.EventRecv name mask all clear timeout)) number) = false
+is_unlisted (Waiting (InCall call) number) = not (is_some (list_of call))
 is_unlisted _ = true
 
 -- whether the object that a call waits for is there

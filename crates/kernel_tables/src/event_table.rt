@@ -7,6 +7,8 @@ ghost use Rattle.kernel_tables.specs.Tabled.{found_event, flags_got, events_rece
 
 use crate::queue::Queue;
 use crate::tables::Tables;
+use crate::wait_list::WaitList;
+use crate::waking::wake_all;
 use crate::woken::WokenThreads;
 use ipc_counts::Want;
 use object_box::Make;
@@ -63,18 +65,18 @@ impl Tables {
         ensures state { OnTrue result (self.new ≡ without_event self.old name.now woken.new) }
         ensures few { length woken.new ≤ length self.old.threads }
     {
-        woken.clear();
-        let _ = self.rows.len();
         let Some(no) = self.lists.objects.find(Class::Event, name) else {
+            woken.clear();
             return false;
         };
-        for _ in 0..self.lists.events[no.0 as usize].len() {
-            let event = &mut self.lists.events[no.0 as usize];
-            let Some(t) = event.first() else { break };
-            event.leave(t);
-            self.rows.wake(t, Code::Error);
-            woken.push_last(t);
-        }
+        wake_all(
+            &mut self.rows,
+            &mut self.lists,
+            WaitList::Event,
+            no,
+            Code::Error,
+            woken,
+        );
         self.lists.objects.remove(Class::Event, no);
         let _ = self.lists.objects.count(Class::Event);
         true

@@ -11,6 +11,8 @@ mod rows;
 mod sem_table;
 mod shown;
 mod tables;
+mod wait_list;
+mod waking;
 mod woken;
 
 pub use place::Place;

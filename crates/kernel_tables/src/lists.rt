@@ -1,11 +1,15 @@
-ghost use Rattle.std.specs.Prelude.{◌≡◌, slice_get, Some, IfSome};
+ghost use Rattle.std.specs.Prelude.{◌≡◌, ◌<◌, Some};
+ghost use Rattle.rt_plain.specs.Waiting.{head_of};
+ghost use Rattle.susp_list.specs.Rows.{line};
+ghost use Rattle.kernel_tables.specs.Listed.{waits_in, slots_in, want_in, left, taken, moved, Holds, MayJoin, IsRelisted, IsJoined};
 ghost use Rattle.kernel_tables.specs.Threads.{stage_of};
-ghost use Rattle.kernel_tables.specs.Listed.{sem_no, event_no, event_at, sem_no_at, event_no_at, want_in, sems_with, events_with, sem_left, event_left, sem_joined, event_joined, sem_moved, event_moved, Holds, MayJoin};
+ghost use Rattle.kernel_tables.specs.WaitLists.{list_of, number_at, list_at};
 
 use crate::place::Place;
+use crate::wait_list::WaitList;
 use ipc_counts::{EventObj, Sem, Want};
 use object_box::Objects;
-use rt_base::{Class, Prio, ThreadNo};
+use rt_base::{Class, ObjNo, Prio, ThreadNo};
 use rt_plain::Call;
 
 /// The objects that threads wait for, by number, with who waits.
@@ -17,35 +21,71 @@ pub struct Lists {
 }
 
 impl Lists {
-    // The thread at this place leaves its wait list, if it stands in one.
-    pub(crate) fn leave(&mut self, t: ThreadNo, place: &Place)
-        requires { Holds self.old t (stage_of place.now) }
-        ensures objects { self.new.objects ≡ self.old.objects }
-        ensures sems { self.new.sems.items ≡ sems_with self.old.sems.items (sem_no_at self.old.objects (stage_of place.now)) (sem_left t) }
-        ensures events { self.new.events.items ≡ events_with self.old.events.items (event_no_at self.old.objects (stage_of place.now)) (event_left t) }
+    // The list in which a thread waits in a call, with the number of its object: `None` where there is none.
+    fn list_of(&self, call: &Call) -> Option<(WaitList, ObjNo)>
+        ensures { result ≡ number_at self.now.objects (list_of call.now) }
     {
-        match place {
-            Place::Waiting(Call::SemTake(name, _), _) => {
-                if let Some(no) = self.objects.find(Class::Sem, name) {
-                    self.sems[no.0 as usize].waiters().leave(t);
-                }
+        match call {
+            Call::SemTake(name, _) => {
+                let no = self.objects.find(Class::Sem, name)?;
+                Some((WaitList::Sem, no))
             }
-            Place::Waiting(Call::EventRecv(name, _, _, _, _), _) => {
-                if let Some(no) = self.objects.find(Class::Event, name) {
-                    self.events[no.0 as usize].leave(t);
-                }
+            Call::EventRecv(name, _, _, _, _) => {
+                let no = self.objects.find(Class::Event, name)?;
+                Some((WaitList::Event, no))
             }
-            _ => {}
+            _ => None,
         }
     }
 
-    // The thread goes into the wait list of a call, if that has one.
-    pub(crate) fn join(&mut self, t: ThreadNo, call: &Call, prio: Prio, at: u64)
-        requires { MayJoin self.old t call.now }
-        ensures objects { self.new.objects ≡ self.old.objects }
-        ensures sems { self.new.sems.items ≡ sems_with self.old.sems.items (sem_no self.old.objects call.now) (sem_joined t (record { prio = prio; at = at })) }
-        ensures events { self.new.events.items ≡ events_with self.old.events.items (event_no self.old.objects call.now) (event_joined t (record { prio = prio; at = at }) (want_in call.now)) }
-        ensures wanted { IfSome (event_no self.old.objects call.now) (λ i. slice_get (event_at self.new.events.items i).wants t ≡ Some (want_in call.now)) }
+    // The list in which a thread at this place stands.
+    fn list_at(&self, place: &Place) -> Option<(WaitList, ObjNo)>
+        ensures { result ≡ list_at self.now.objects (stage_of place.now) }
+    {
+        match place {
+            Place::Waiting(call, _) => self.list_of(call),
+            _ => None,
+        }
+    }
+
+    // The first thread leaves a list: `None` exactly where nobody waits.
+    pub fn take_first(&mut self, list: WaitList, no: ObjNo) -> Option<ThreadNo>
+        requires { no < slots_in self.old list }
+        ensures first { result ≡ head_of (line (waits_in self.old list no)) }
+        ensures state { IsRelisted self.old self.new (Some (list, no)) (taken result) }
+    {
+        match list {
+            WaitList::Sem => {
+                let waiters = self.sems[no.0 as usize].waiters();
+                let t = waiters.first()?;
+                waiters.leave(t);
+                Some(t)
+            }
+            WaitList::Event => {
+                let event = &mut self.events[no.0 as usize];
+                let t = event.first()?;
+                event.leave(t);
+                Some(t)
+            }
+        }
+    }
+
+    // The thread at this place leaves its list, if it stands in one.
+    pub fn leave_at(&mut self, t: ThreadNo, place: &Place)
+        requires { Holds self.old (list_at self.old.objects (stage_of place.now)) t }
+        ensures { IsRelisted self.old self.new (list_at self.old.objects (stage_of place.now)) (left t) }
+    {
+        match self.list_at(place) {
+            Some((WaitList::Sem, no)) => self.sems[no.0 as usize].waiters().leave(t),
+            Some((WaitList::Event, no)) => self.events[no.0 as usize].leave(t),
+            None => {}
+        }
+    }
+
+    // The thread goes into the list of a call, if that has one.
+    pub fn join(&mut self, t: ThreadNo, call: &Call, prio: Prio, at: u64)
+        requires { MayJoin self.old (number_at self.old.objects (list_of call.now)) t }
+        ensures { IsJoined self.old self.new (number_at self.old.objects (list_of call.now)) t (record { prio = prio; at = at }) (want_in call.now) }
     {
         match call {
             Call::SemTake(name, _) => {
@@ -67,25 +107,15 @@ impl Lists {
         }
     }
 
-    // The thread has another priority in its wait list, if it stands in one.
-    pub(crate) fn reprio(&mut self, t: ThreadNo, place: &Place, prio: Prio)
-        requires { Holds self.old t (stage_of place.now) }
-        ensures objects { self.new.objects ≡ self.old.objects }
-        ensures sems { self.new.sems.items ≡ sems_with self.old.sems.items (sem_no_at self.old.objects (stage_of place.now)) (sem_moved t prio) }
-        ensures events { self.new.events.items ≡ events_with self.old.events.items (event_no_at self.old.objects (stage_of place.now)) (event_moved t prio) }
+    // The thread at this place has another priority in its list, if it stands in one.
+    pub fn reprio_at(&mut self, t: ThreadNo, place: &Place, prio: Prio)
+        requires { Holds self.old (list_at self.old.objects (stage_of place.now)) t }
+        ensures { IsRelisted self.old self.new (list_at self.old.objects (stage_of place.now)) (moved t prio) }
     {
-        match place {
-            Place::Waiting(Call::SemTake(name, _), _) => {
-                if let Some(no) = self.objects.find(Class::Sem, name) {
-                    self.sems[no.0 as usize].waiters().reprio(t, prio);
-                }
-            }
-            Place::Waiting(Call::EventRecv(name, _, _, _, _), _) => {
-                if let Some(no) = self.objects.find(Class::Event, name) {
-                    self.events[no.0 as usize].reprio(t, prio);
-                }
-            }
-            _ => {}
+        match self.list_at(place) {
+            Some((WaitList::Sem, no)) => self.sems[no.0 as usize].waiters().reprio(t, prio),
+            Some((WaitList::Event, no)) => self.events[no.0 as usize].reprio(t, prio),
+            None => {}
         }
     }
 }

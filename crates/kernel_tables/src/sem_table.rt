@@ -6,6 +6,8 @@ ghost use Rattle.kernel_tables.specs.Tabled.{found_sem, sems_taken, Releases, Cr
 
 use crate::queue::Queue;
 use crate::tables::Tables;
+use crate::wait_list::WaitList;
+use crate::waking::wake_all;
 use ipc_counts::SemReleased;
 use object_box::Make;
 use rt_base::{Class, Code, Name, WaitOrder};
@@ -54,19 +56,18 @@ impl Tables {
         ensures state { OnTrue result (self.new ≡ without_sem self.old name.now woken.new) }
         ensures few { length woken.new ≤ length self.old.threads }
     {
-        woken.clear();
-        // There is room in the queue for all threads.
-        let _ = self.rows.len();
         let Some(no) = self.lists.objects.find(Class::Sem, name) else {
+            woken.clear();
             return false;
         };
-        for _ in 0..self.lists.sems[no.0 as usize].len() {
-            let list = self.lists.sems[no.0 as usize].waiters();
-            let Some(t) = list.first() else { break };
-            list.leave(t);
-            self.rows.wake(t, Code::Error);
-            woken.push_last(t);
-        }
+        wake_all(
+            &mut self.rows,
+            &mut self.lists,
+            WaitList::Sem,
+            no,
+            Code::Error,
+            woken,
+        );
         self.lists.objects.remove(Class::Sem, no);
         // Their numbers and names are still distinct.
         let _ = self.lists.objects.count(Class::Sem);

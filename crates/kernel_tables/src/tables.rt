@@ -44,7 +44,7 @@ impl Tables {
         requires unlisted { is_unlisted (stage_of place) ≡ true }
         ensures { self.new ≡ record self.old { threads = with_row self.old.threads t (λ row. record row { stage = stage_of place }) } }
     {
-        self.lists.leave(t, self.rows.place(t));
+        self.lists.leave_at(t, self.rows.place(t));
         self.rows.stand(t, place);
     }
 
@@ -53,7 +53,7 @@ impl Tables {
         requires { t < length self.old.threads }
         ensures { self.new ≡ record self.old { threads = with_row self.old.threads t (λ row. record row { stage = Closed; retry = None }) } }
     {
-        self.lists.leave(t, self.rows.place(t));
+        self.lists.leave_at(t, self.rows.place(t));
         self.rows.close(t);
     }
 
@@ -63,7 +63,7 @@ impl Tables {
         requires known { knows self.old call ≡ true }
         ensures { self.new ≡ record self.old { threads = with_row self.old.threads t (λ row. record row { stage = Waiting (InCall call) at }) } }
     {
-        self.lists.leave(t, self.rows.place(t));
+        self.lists.leave_at(t, self.rows.place(t));
         self.lists.join(t, &call, self.rows.base(t), at);
         self.rows.stand(t, Place::Waiting(call, at));
     }
@@ -73,7 +73,7 @@ impl Tables {
         requires { t < length self.old.threads }
         ensures { self.new ≡ record self.old { threads = with_row self.old.threads t (λ row. record row { base = base }) } }
     {
-        self.lists.reprio(t, self.rows.place(t), base);
+        self.lists.reprio_at(t, self.rows.place(t), base);
         self.rows.set_base(t, base);
     }
 

@@ -2,6 +2,8 @@ use Rattle.std.proofs.Common.{arith, ◌≡◌, ◌<◌, ◌∙◌, false, sym, 
 use Rattle.std.specs.Prelude.{Result}
 use Rattle.object_box.specs.Objects.{has_number}
 use Rattle.object_box.specs.declared.fault.Make.{Make}
+use Rattle.ipc_counts.specs.Counted.{Counted}
+use Rattle.kernel_tables.specs.declared.wait_list.WaitList.{WaitList}
 use Rattle.kernel_tables.specs.Tabled.{Tabled, CreatesSem}
 use Rattle.kernel_tables.proofs.SemLemmas.{slot-is, tied-made, free-slot, made-seen, refused-seen, err-is, shown, made_sem}
 use Rattle.kernel_tables.proofs.tables.Tables.create_sem.Goals as goal
@@ -14,24 +16,34 @@ returns-in_err-no c =
     (sym (err-is c.from_residual.result c.in_err-no.field-0.0 c.from_residual.ensures))
     (refused-seen c.self.inside.rows c.self.inside.lists.objects c.make.new.self c.self.inside.lists.sems.items c.self.inside.lists.events.items (record { name = c.args.name; value = c.args.value; order = c.args.order }) c.in_err-no.field-0.0 c.in_err-no.ensures.cause c.in_err-no.ensures.state))
 
+pub index_mut-requires : goal.index_mut-requires
+index_mut-requires c =
+    let cause = c.in_ok-no.ensures.cause in
+    let slots : length c.self.inside.lists.sems.items ≡ c.self.inside.lists.objects.sem.limit = c.self.invariant.slots WaitList.Sem in
+    omega (arith, c.no.view_is, cause.1.1.1, slots)
+
 pub reset-requires : goal.reset-requires
 reset-requires c =
     let cause = c.in_ok-no.ensures.cause in
     let free : has_number c.self.inside.lists.objects.sem.objects c.no.inside.0 ≡ false = ap (has_number c.self.inside.lists.objects.sem.objects) c.no.view_is ∙ cause.1.1.0.free in
-    let there : c.no.inside.0 < length c.self.inside.lists.sems.items = omega (arith, c.no.view_is, cause.1.1.1, c.self.invariant.sems_len) in
-    free-slot _ _ _ _ c.no.inside.0 _ c.self.invariant there free (slot-is c.self.inside.lists.sems.items c.no.inside.0 c.index_mut.result.now there c.index_mut.ensures.value)
+    let below : c.no.inside.0 < c.self.inside.lists.objects.sem.limit = omega (arith, c.no.view_is, cause.1.1.1) in
+    let there : c.no.inside.0 < length c.self.inside.lists.sems.items = subst (λ n. c.no.inside.0 < n) (sym (c.self.invariant.slots WaitList.Sem)) below in
+    free-slot c.self.inside.rows c.self.inside.lists c.no.inside.0 c.index_mut.result.now c.self.invariant below free (slot-is c.self.inside.lists.sems.items c.no.inside.0 c.index_mut.result.now there c.index_mut.ensures.value)
 
 pub invariant_of-self-2 : goal.invariant_of-self-2
 invariant_of-self-2 c =
     let cause = c.in_ok-no.ensures.cause in
-    let there : c.no.inside.0 < length c.self.inside.lists.sems.items = omega (arith, c.no.view_is, cause.1.1.1, c.self.invariant.sems_len) in
+    let below : c.no.inside.0 < c.self.inside.lists.objects.sem.limit = omega (arith, c.no.view_is, cause.1.1.1) in
+    let there : c.no.inside.0 < length c.self.inside.lists.sems.items = subst (λ n. c.no.inside.0 < n) (sym (c.self.invariant.slots WaitList.Sem)) below in
     let made : c.make.new.self ≡ made_sem c.self.inside.lists.objects c.args.name c.no.inside.0 = c.in_ok-no.ensures.state ∙ ap (made_sem c.self.inside.lists.objects c.args.name) (sym c.no.view_is) in
-    rw c.reset.ensures (tied-made _ _ _ _ _ c.args.name c.no.inside.0 _ _ c.self.invariant made cause.0 there (slot-is c.self.inside.lists.sems.items c.no.inside.0 c.index_mut.result.now there c.index_mut.ensures.value) refl c.count.ensures.sound)
+    let at = slot-is c.self.inside.lists.sems.items c.no.inside.0 c.index_mut.result.now there c.index_mut.ensures.value in
+    tied-made c.self.inside.rows c.self.inside.lists _ c.args.name c.no.inside.0 c.reset.new.self c.self.invariant made cause.0 c.count.ensures.sound refl refl (ap (λ (x : Counted). x.waiters.rows) c.reset.ensures ∙ ap (λ (x : Counted). x.waiters.rows) at)
 
 pub returns : goal.returns
 returns c =
     let cause = c.in_ok-no.ensures.cause in
-    let there : c.no.inside.0 < length c.self.inside.lists.sems.items = omega (arith, c.no.view_is, cause.1.1.1, c.self.invariant.sems_len) in
+    let below : c.no.inside.0 < c.self.inside.lists.objects.sem.limit = omega (arith, c.no.view_is, cause.1.1.1) in
+    let there : c.no.inside.0 < length c.self.inside.lists.sems.items = subst (λ n. c.no.inside.0 < n) (sym (c.self.invariant.slots WaitList.Sem)) below in
     let free : has_number c.self.inside.lists.objects.sem.objects c.no.inside.0 ≡ false = ap (has_number c.self.inside.lists.objects.sem.objects) c.no.view_is ∙ cause.1.1.0.free in
     let made : c.make.new.self ≡ made_sem c.self.inside.lists.objects c.args.name c.no.inside.0 = c.in_ok-no.ensures.state ∙ ap (made_sem c.self.inside.lists.objects c.args.name) (sym c.no.view_is) in
     rw (← c.self.view_is, c.reset.ensures) (made-seen c.self.inside.rows c.self.inside.lists.objects c.make.new.self c.self.inside.lists.sems.items c.self.inside.lists.events.items c.args.name c.args.value c.args.order c.no.inside.0 c.index_mut.result.now.waiters.rows there cause.0 cause.1.0 free made)

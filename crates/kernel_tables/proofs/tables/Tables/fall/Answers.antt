@@ -3,11 +3,11 @@ use Rattle.rt_plain.specs.State.{Thread}
 use Rattle.rt_plain.specs.Ticks.{thread_after_slice}
 use Rattle.kernel_tables.specs.Tabled.{Tabled}
 use Rattle.kernel_tables.specs.Threads.{row_at}
-use Rattle.kernel_tables.proofs.TableLemmas.{tied-kept, fallen}
+use Rattle.kernel_tables.proofs.TableLemmas.{stage-kept, fallen}
 use Rattle.kernel_tables.proofs.tables.Tables.fall.Goals as goal
 
 pub invariant_of-self : goal.invariant_of-self
 invariant_of-self c =
     let there : c.args.t < length c.self.inside.rows = subst (λ (k : Tabled). c.args.t < length k.threads) (sym c.self.view_is) c.requires in
     let row : Thread = row_at c.self.inside.rows c.args.t in
-    rw c.fall.ensures (tied-kept c.self.inside.rows c.self.inside.lists.objects c.self.inside.lists.sems.items c.self.inside.lists.events.items c.args.t (thread_after_slice row) c.self.invariant there (fallen row).0 (fallen row).1)
+    rw c.fall.ensures (stage-kept c.self.inside.rows c.self.inside.lists c.args.t (thread_after_slice row) c.self.invariant there (fallen row).0 (fallen row).1)

@@ -1,9 +1,6 @@
-use Rattle.std.proofs.Common.{arith, ◌≡◌, ◌∙◌, Some, None, true, sym, ap, refl}
-use Rattle.ipc_counts.specs.Counted.{Counted}
-use Rattle.susp_list.specs.Rows.{holds}
+use Rattle.std.proofs.Common.{arith, ◌≡◌, ◌∙◌, Some, None, sym, ap, refl}
 use Rattle.object_box.specs.Objects.{number_of}
-use Rattle.kernel_tables.specs.Listed.{sem_at}
-use Rattle.kernel_tables.proofs.SemLemmas.{seen-none, slot-there, slot-is, first-holds, first-there, woke-seen, kept-seen, tied-woke}
+use Rattle.kernel_tables.proofs.SemLemmas.{seen-none, slot-there, slot-is, woke-there, woke-tied, woke-seen, kept-seen}
 use Rattle.kernel_tables.proofs.tables.Tables.release_sem.Goals as goal
 use Rattle.kernel_tables.proofs.tables.Tables.release_sem.Goals.{in-Woke, in_default}
 
@@ -15,29 +12,31 @@ returns-in_err-no c =
 pub index_mut-requires : goal.index_mut-requires
 index_mut-requires c =
     let is : number_of c.self.inside.lists.objects.sem.objects c.args.name.now ≡ Some c.no.inside.0 = sym c.find.ensures ∙ c.in_ok-no.was ∙ ap (λ n. Some n) (sym c.no.view_is) in
-    omega (arith, slot-there _ _ _ _ c.args.name.now c.no.inside.0 c.self.invariant is)
+    omega (arith, slot-there c.self.inside.rows c.self.inside.lists c.args.name.now c.no.inside.0 c.self.invariant is)
 
 pub wake-requires : goal.wake-requires
 wake-requires c =
-    let is : number_of c.self.inside.lists.objects.sem.objects c.args.name.now ≡ Some c.no.inside.0 = sym c.find.ensures ∙ c.in_ok-no.was ∙ ap (λ n. Some n) (sym c.no.view_is) in
-    let there = slot-there _ _ _ _ c.args.name.now c.no.inside.0 c.self.invariant is in
-    let at = slot-is c.self.inside.lists.sems.items c.no.inside.0 c.index_mut.result.now there c.index_mut.ensures.value in
-    let held : holds (sem_at c.self.inside.lists.sems.items c.no.inside.0).waiters c.in-Woke.t ≡ true = ap (λ (x : Counted). holds x.waiters c.in-Woke.t) (sym at) ∙ first-holds c.index_mut.result.now.waiters c.in-Woke.t c.in-Woke.ensures.0 in
-    first-there _ _ _ _ _ _ c.self.invariant there held
+    let l = c.self.inside.lists in
+    let is : number_of l.objects.sem.objects c.args.name.now ≡ Some c.no.inside.0 = sym c.find.ensures ∙ c.in_ok-no.was ∙ ap (λ n. Some n) (sym c.no.view_is) in
+    let there = slot-there c.self.inside.rows l c.args.name.now c.no.inside.0 c.self.invariant is in
+    let at = slot-is l.sems.items c.no.inside.0 c.index_mut.result.now there c.index_mut.ensures.value in
+    woke-there c.self.inside.rows l c.args.name.now c.no.inside.0 c.in-Woke.t c.index_mut.result.now c.self.invariant is at c.in-Woke.ensures.0
 
 pub invariant_of-self : goal.invariant_of-self
 invariant_of-self c =
-    let is : number_of c.self.inside.lists.objects.sem.objects c.args.name.now ≡ Some c.no.inside.0 = sym c.find.ensures ∙ c.in_ok-no.was ∙ ap (λ n. Some n) (sym c.no.view_is) in
-    let there = slot-there _ _ _ _ c.args.name.now c.no.inside.0 c.self.invariant is in
-    let at = slot-is c.self.inside.lists.sems.items c.no.inside.0 c.index_mut.result.now there c.index_mut.ensures.value in
-    tied-woke _ _ _ _ _ _ _ c.in-Woke.t _ _ c.self.invariant there at c.in-Woke.ensures.0 c.in-Woke.ensures.1 c.wake.ensures
+    let l = c.self.inside.lists in
+    let is : number_of l.objects.sem.objects c.args.name.now ≡ Some c.no.inside.0 = sym c.find.ensures ∙ c.in_ok-no.was ∙ ap (λ n. Some n) (sym c.no.view_is) in
+    let there = slot-there c.self.inside.rows l c.args.name.now c.no.inside.0 c.self.invariant is in
+    let at = slot-is l.sems.items c.no.inside.0 c.index_mut.result.now there c.index_mut.ensures.value in
+    woke-tied c.self.inside.rows c.wake.new.self l _ c.args.name.now c.no.inside.0 c.in-Woke.t c.index_mut.result.now c.release-answer.new.self c.self.invariant is at c.in-Woke.ensures refl refl refl c.wake.ensures
 
 pub returns : goal.returns
 returns c =
-    let is : number_of c.self.inside.lists.objects.sem.objects c.args.name.now ≡ Some c.no.inside.0 = sym c.find.ensures ∙ c.in_ok-no.was ∙ ap (λ n. Some n) (sym c.no.view_is) in
-    let there = slot-there _ _ _ _ c.args.name.now c.no.inside.0 c.self.invariant is in
-    let at = slot-is c.self.inside.lists.sems.items c.no.inside.0 c.index_mut.result.now there c.index_mut.ensures.value in
+    let l = c.self.inside.lists in
+    let is : number_of l.objects.sem.objects c.args.name.now ≡ Some c.no.inside.0 = sym c.find.ensures ∙ c.in_ok-no.was ∙ ap (λ n. Some n) (sym c.no.view_is) in
+    let there = slot-there c.self.inside.rows l c.args.name.now c.no.inside.0 c.self.invariant is in
+    let at = slot-is l.sems.items c.no.inside.0 c.index_mut.result.now there c.index_mut.ensures.value in
     rw (← c.self.view_is) (elim c.match-answer.branch [
-      | in-Woke w ↦ rw (w.self-is, w.answer-is) (woke-seen _ _ _ _ _ c.args.name.now c.no.inside.0 w.in-Woke.t c.index_mut.result.now c.release-answer.new.self c.self.invariant is at w.in-Woke.ensures w.wake.ensures)
-      | in_default w ↦ rw (w.self-is, w.answer-is) (kept-seen _ _ _ _ c.args.name.now c.no.inside.0 c.index_mut.result.now c.release-answer.new.self c.release-answer.result c.self.invariant is at c.release-answer.ensures w.in_default.not-Woke)
+      | in-Woke w ↦ rw (w.self-is, w.answer-is) (woke-seen c.self.inside.rows w.wake.new.self l c.args.name.now c.no.inside.0 w.in-Woke.t c.index_mut.result.now c.release-answer.new.self c.self.invariant is at w.in-Woke.ensures w.wake.ensures)
+      | in_default w ↦ rw (w.self-is, w.answer-is) (kept-seen c.self.inside.rows l c.args.name.now c.no.inside.0 c.index_mut.result.now c.release-answer.new.self c.release-answer.result c.self.invariant is at c.release-answer.ensures w.in_default.not-Woke)
     ])

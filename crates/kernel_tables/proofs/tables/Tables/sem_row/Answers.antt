@@ -2,6 +2,7 @@ use Rattle.std.proofs.Common.{◌≡◌, Some, ap, ◌∙◌, sym, slice_get, le
 use Rattle.object_box.specs.declared.object.Object.{Object}
 use Rattle.rt_plain.specs.declared.row.Row.{Row}
 use Rattle.susp_list.specs.Rows.{line}
+use Rattle.kernel_tables.specs.declared.wait_list.WaitList.{WaitList}
 use Rattle.kernel_tables.specs.ObjectRows.{sem_shown}
 use Rattle.kernel_tables.specs.Tabled.{Tabled}
 use Rattle.kernel_tables.proofs.ObjectRowLemmas.{placed_below, sem_row_is}
@@ -11,7 +12,8 @@ pub index-sem-requires : goal.index-sem-requires
 index-sem-requires c =
     let o : Object = record { no = c.no.inside.0; name = c.at-no.result.1 } in
     let at : slice_get c.self.inside.lists.objects.sem.objects c.args.place ≡ Some o = c.at-no.ensures ∙ ap (λ n. Some (record { no = n; name = c.at-no.result.1 })) (sym c.no.view_is) in
-    omega (arith, placed_below c.self.inside.lists.objects.sem c.args.place o c.self.invariant.sems_sound at, c.self.invariant.sems_len)
+    let slots : length c.self.inside.lists.sems.items ≡ c.self.inside.lists.objects.sem.limit = c.self.invariant.slots WaitList.Sem in
+    omega (arith, placed_below c.self.inside.lists.objects.sem c.args.place o (c.self.invariant.lists.sound WaitList.Sem) at, slots)
 
 pub returns : goal.returns
 returns c =

@@ -1,17 +1,19 @@
-use Rattle.std.proofs.Common.{arith, ◌≡◌, ◌<◌, ℕ, List, Some, length, map, slice_get, slice_set, bit_or, is_some, refl, sym, ap, ◌∙◌, subst}
-use Rattle.std.proofs.lemmas.List.{get_or_read, length-map}
+use Rattle.std.proofs.Common.{arith, ◌≡◌, ◌<◌, ℕ, List, Some, length, map, slice_get, slice_set, bit_or, is_some, refl, sym, ap, ◌∙◌}
+use Rattle.std.proofs.lemmas.List.{get_or_read}
 use Rattle.std.proofs.lemmas.Option.{none-some}
 use Rattle.rt_plain.specs.State.{Thread}
-use Rattle.rt_plain.specs.Waiting.{receives_event}
 use Rattle.object_box.specs.Objects.{number_of}
 use Rattle.ipc_counts.specs.Flags.{Flagged}
 use Rattle.ipc_counts.specs.Sent.{sent, wanting, woken_by}
 use Rattle.kernel_tables.specs.declared.lists.Lists.{Lists}
-use Rattle.kernel_tables.specs.Listed.{event_at, plain_event, wait_row, calls_on}
+use Rattle.kernel_tables.specs.declared.wait_list.WaitList.{WaitList}
+use Rattle.kernel_tables.specs.Listed.{event_at, plain_event}
+use Rattle.kernel_tables.specs.WaitLists.{calls_in}
 use Rattle.kernel_tables.specs.Tabled.{Tabled, all_given}
-use Rattle.kernel_tables.specs.Tied.{AreTied, IsTied, tabled}
-use Rattle.kernel_tables.proofs.TiedLemmas.{no_event}
-use Rattle.kernel_tables.proofs.EventLemmas.{InLine, event-there, event-missing, event-below, tied-sent, sent-each, sent-few, sent-woken, sent-state, each-at, giving-more, giving-end}
+use Rattle.kernel_tables.specs.Tied.{tabled}
+use Rattle.kernel_tables.proofs.ListChangeLemmas.{no_event}
+use Rattle.kernel_tables.proofs.WokenLemmas.{InLine}
+use Rattle.kernel_tables.proofs.EventLemmas.{event-wide, event-there, event-missing, event-below, tied-sent, sent-each, sent-few, sent-woken, sent-state, each-at, giving-more, giving-end}
 use Rattle.kernel_tables.proofs.tables.Tables.send.Goals as goal
 
 pub returns-in_default-clause-answer : goal.returns-in_default-clause-answer
@@ -38,19 +40,18 @@ pub index_mut-requires : goal.index_mut-requires
 index_mut-requires c =
     let l = c.self.inside.lists in
     let number : number_of l.objects.event.objects c.args.name.now ≡ Some c.no.inside.0 = sym c.find.ensures ∙ c.in-Some.is ∙ ap Some (sym c.no.view_is) in
-    omega (arith, event-below c.self.inside.rows l.objects l.sems.items l.events.items c.args.name.now c.no.inside.0 c.self.invariant number, l.events.ok.0)
+    omega (arith, event-below c.self.inside.rows l c.args.name.now c.no.inside.0 c.self.invariant number, l.events.ok.0)
 
 pub send-requires : goal.send-requires
 send-requires c =
     let l = c.self.inside.lists in
     let number : number_of l.objects.event.objects c.args.name.now ≡ Some c.no.inside.0 = sym c.find.ensures ∙ c.in-Some.is ∙ ap Some (sym c.no.view_is) in
-    let there : c.no.inside.0 < length l.events.items = event-below c.self.inside.rows l.objects l.sems.items l.events.items c.args.name.now c.no.inside.0 c.self.invariant number in
+    let there : c.no.inside.0 < length l.events.items = event-below c.self.inside.rows l c.args.name.now c.no.inside.0 c.self.invariant number in
     let read : c.index_mut.result.now ≡ event_at l.events.items c.no.inside.0 = get_or_read l.events.items _ _ there c.index_mut.ensures.value no_event in
     omega (
       arith,
       ap (λ (e : Flagged). length e.waiters.rows) read,
-      ap length (c.self.invariant.event_rows c.no.inside.0 there),
-      length-map c.self.inside.rows (wait_row (calls_on receives_event l.objects.event.objects c.no.inside.0)),
+      event-wide c.self.inside.rows l c.no.inside.0 c.self.invariant there,
       c.len.ensures.len,
       c.len.ensures.few,
     )
@@ -62,28 +63,26 @@ pub invariant_of-self : goal.invariant_of-self
 invariant_of-self c =
     let l = c.self.inside.lists in
     let number : number_of l.objects.event.objects c.args.name.now ≡ Some c.no.inside.0 = sym c.find.ensures ∙ c.in-Some.is ∙ ap Some (sym c.no.view_is) in
-    let there : c.no.inside.0 < length l.events.items = event-below c.self.inside.rows l.objects l.sems.items l.events.items c.args.name.now c.no.inside.0 c.self.invariant number in
+    let there : c.no.inside.0 < length l.events.items = event-below c.self.inside.rows l c.args.name.now c.no.inside.0 c.self.invariant number in
     let read : c.index_mut.result.now ≡ event_at l.events.items c.no.inside.0 = get_or_read l.events.items _ _ there c.index_mut.ensures.value no_event in
     let woken : c.send.new.self ≡ woken_by (bit_or (event_at l.events.items c.no.inside.0).flags c.args.mask) (wanting (event_at l.events.items c.no.inside.0)) =
     c.send.ensures.woken ∙ ap (λ (e : Flagged). woken_by (bit_or e.flags c.args.mask) (wanting e)) read in
     let event_is : c.send.new.event ≡ sent (event_at l.events.items c.no.inside.0) c.args.mask = c.send.ensures.event ∙ ap (λ (e : Flagged). sent e c.args.mask) read in
     let rows : c.loop-i.self-inside.rows ≡ all_given c.self.inside.rows (woken_by (bit_or (event_at l.events.items c.no.inside.0).flags c.args.mask) (wanting (event_at l.events.items c.no.inside.0))) =
     giving-end c.self.inside.rows c.loop-i.self-inside.rows c.send.new.self c.loop-i.i c.loop-i.invariant.giving (omega (arith, c.loop-i-test.false, c.len-i-end.ensures)) ∙ ap (all_given c.self.inside.rows) woken in
-    let tied = tied-sent c.self.inside.rows l.objects l.sems.items l.events.items c.no.inside.0 c.args.mask c.self.invariant there in
-    let asleep = subst (λ (f : Flagged). AreTied (all_given c.self.inside.rows (woken_by (bit_or (event_at l.events.items c.no.inside.0).flags c.args.mask) (wanting (event_at l.events.items c.no.inside.0)))) l.objects l.sems.items (slice_set l.events.items c.no.inside.0 f)) (sym event_is) tied in
-    let awake = subst (λ (all : List Thread). AreTied all l.objects l.sems.items (slice_set l.events.items c.no.inside.0 c.send.new.event)) (sym rows) asleep in
-    subst (λ (lists : Lists). IsTied c.loop-i.self-inside.rows lists) (sym c.loop-i.invariant.lists) awake
+    tied-sent c.self.inside.rows l c.no.inside.0 c.self.invariant there c.args.mask c.loop-i.self-inside.rows c.loop-i.self-inside.lists rows (ap (λ (x : Lists). x.objects) c.loop-i.invariant.lists) (ap (λ (x : Lists). x.sems.items) c.loop-i.invariant.lists)
+    (ap (λ (x : Lists). x.events.items) c.loop-i.invariant.lists ∙ ap (slice_set l.events.items c.no.inside.0) event_is)
 
 pub give-requires : goal.give-requires
 give-requires c =
     let l = c.self.inside.lists in
     let number : number_of l.objects.event.objects c.args.name.now ≡ Some c.no.inside.0 = sym c.find.ensures ∙ c.in-Some.is ∙ ap Some (sym c.no.view_is) in
-    let there : c.no.inside.0 < length l.events.items = event-below c.self.inside.rows l.objects l.sems.items l.events.items c.args.name.now c.no.inside.0 c.self.invariant number in
+    let there : c.no.inside.0 < length l.events.items = event-below c.self.inside.rows l c.args.name.now c.no.inside.0 c.self.invariant number in
     let read : c.index_mut.result.now ≡ event_at l.events.items c.no.inside.0 = get_or_read l.events.items _ _ there c.index_mut.ensures.value no_event in
     let woken : c.send.new.self ≡ woken_by (bit_or (event_at l.events.items c.no.inside.0).flags c.args.mask) (wanting (event_at l.events.items c.no.inside.0)) =
     c.send.ensures.woken ∙ ap (λ (e : Flagged). woken_by (bit_or e.flags c.args.mask) (wanting e)) read in
-    let p = calls_on receives_event l.objects.event.objects c.no.inside.0 in
-    let each = sent-each c.self.inside.rows l.objects l.sems.items l.events.items c.no.inside.0 (bit_or (event_at l.events.items c.no.inside.0).flags c.args.mask) c.self.invariant there in
+    let p = calls_in l.objects WaitList.Event c.no.inside.0 in
+    let each = sent-each c.self.inside.rows l c.no.inside.0 c.self.invariant there (bit_or (event_at l.events.items c.no.inside.0).flags c.args.mask) in
     let at : slice_get (woken_by (bit_or (event_at l.events.items c.no.inside.0).flags c.args.mask) (wanting (event_at l.events.items c.no.inside.0))) c.loop-i.i ≡ Some c.at-t.result = ap (λ (ws : List (ℕ × ℕ)). slice_get ws c.loop-i.i) (sym woken) ∙ c.at-t.ensures in
     omega (arith, (each-at (InLine c.self.inside.rows p) (λ (w : ℕ × ℕ). w.0) _ c.loop-i.i c.at-t.result each at).there, c.loop-i.invariant.giving.len)
 
@@ -103,17 +102,17 @@ pub returns-clause-woken : goal.returns-clause-woken
 returns-clause-woken c =
     let l = c.self.inside.lists in
     let number : number_of l.objects.event.objects c.args.name.now ≡ Some c.no.inside.0 = sym c.find.ensures ∙ c.in-Some.is ∙ ap Some (sym c.no.view_is) in
-    let there : c.no.inside.0 < length l.events.items = event-below c.self.inside.rows l.objects l.sems.items l.events.items c.args.name.now c.no.inside.0 c.self.invariant number in
+    let there : c.no.inside.0 < length l.events.items = event-below c.self.inside.rows l c.args.name.now c.no.inside.0 c.self.invariant number in
     let read : c.index_mut.result.now ≡ event_at l.events.items c.no.inside.0 = get_or_read l.events.items _ _ there c.index_mut.ensures.value no_event in
     let woken : c.send.new.self ≡ woken_by (bit_or (event_at l.events.items c.no.inside.0).flags c.args.mask) (wanting (event_at l.events.items c.no.inside.0)) =
     c.send.ensures.woken ∙ ap (λ (e : Flagged). woken_by (bit_or e.flags c.args.mask) (wanting e)) read in
-    rw (← c.self.view_is) (λ event found. woken ∙ sent-woken c.self.inside.rows l.objects l.sems.items l.events.items c.args.name.now c.no.inside.0 c.args.mask event c.self.invariant number found)
+    rw (← c.self.view_is) (λ event found. woken ∙ sent-woken c.self.inside.rows l c.no.inside.0 c.self.invariant there c.args.name.now c.args.mask event number found)
 
 pub returns-clause-state : goal.returns-clause-state
 returns-clause-state c =
     let l = c.self.inside.lists in
     let number : number_of l.objects.event.objects c.args.name.now ≡ Some c.no.inside.0 = sym c.find.ensures ∙ c.in-Some.is ∙ ap Some (sym c.no.view_is) in
-    let there : c.no.inside.0 < length l.events.items = event-below c.self.inside.rows l.objects l.sems.items l.events.items c.args.name.now c.no.inside.0 c.self.invariant number in
+    let there : c.no.inside.0 < length l.events.items = event-below c.self.inside.rows l c.args.name.now c.no.inside.0 c.self.invariant number in
     let read : c.index_mut.result.now ≡ event_at l.events.items c.no.inside.0 = get_or_read l.events.items _ _ there c.index_mut.ensures.value no_event in
     let woken : c.send.new.self ≡ woken_by (bit_or (event_at l.events.items c.no.inside.0).flags c.args.mask) (wanting (event_at l.events.items c.no.inside.0)) =
     c.send.ensures.woken ∙ ap (λ (e : Flagged). woken_by (bit_or e.flags c.args.mask) (wanting e)) read in
@@ -123,15 +122,15 @@ returns-clause-state c =
     let seen : List Thread → Flagged → Tabled = λ all f. record (tabled all l) { events = map (plain_event (slice_set l.events.items c.no.inside.0 f)) l.objects.event.objects } in
     let now : tabled c.loop-i.self-inside.rows c.loop-i.self-inside.lists ≡ seen _ (sent (event_at l.events.items c.no.inside.0) c.args.mask) =
     ap (tabled c.loop-i.self-inside.rows) c.loop-i.invariant.lists ∙ ap (λ all. seen all c.send.new.event) rows ∙ ap (seen _) event_is in
-    rw (← c.self.view_is) (λ event found. now ∙ sent-state c.self.inside.rows l.objects l.sems.items l.events.items c.args.name.now c.no.inside.0 c.args.mask (tabled c.self.inside.rows l) event c.self.invariant number found refl refl)
+    rw (← c.self.view_is) (λ event found. now ∙ sent-state c.self.inside.rows l c.no.inside.0 c.self.invariant there c.args.name.now c.args.mask event number found)
 
 pub returns-clause-few : goal.returns-clause-few
 returns-clause-few c =
     let l = c.self.inside.lists in
     let number : number_of l.objects.event.objects c.args.name.now ≡ Some c.no.inside.0 = sym c.find.ensures ∙ c.in-Some.is ∙ ap Some (sym c.no.view_is) in
-    let there : c.no.inside.0 < length l.events.items = event-below c.self.inside.rows l.objects l.sems.items l.events.items c.args.name.now c.no.inside.0 c.self.invariant number in
+    let there : c.no.inside.0 < length l.events.items = event-below c.self.inside.rows l c.args.name.now c.no.inside.0 c.self.invariant number in
     let read : c.index_mut.result.now ≡ event_at l.events.items c.no.inside.0 = get_or_read l.events.items _ _ there c.index_mut.ensures.value no_event in
     let woken : c.send.new.self ≡ woken_by (bit_or (event_at l.events.items c.no.inside.0).flags c.args.mask) (wanting (event_at l.events.items c.no.inside.0)) =
     c.send.ensures.woken ∙ ap (λ (e : Flagged). woken_by (bit_or e.flags c.args.mask) (wanting e)) read in
-    let few = sent-few c.self.inside.rows l.objects l.sems.items l.events.items c.no.inside.0 (bit_or (event_at l.events.items c.no.inside.0).flags c.args.mask) c.self.invariant there in
+    let few = sent-few c.self.inside.rows l c.no.inside.0 c.self.invariant there (bit_or (event_at l.events.items c.no.inside.0).flags c.args.mask) in
     rw (← c.self.view_is) (λ event found. omega (arith, ap length woken, few))
