@@ -182,13 +182,6 @@ tied-joined threads l new t call number tied there free known is = record {
       ∙ want-is call
   wanted i within false off some = absurd (false≢true (ap is_some (sym (row-none a WaitList.Event i row (tied.lists.sound WaitList.Event) off)) ∙ some))
 
--- a slice that falls changes no priority and no wait
-pub fallen : (row : Thread) → ((thread_after_slice row).base ≡ row.base) × ((thread_after_slice row).stage ≡ row.stage)
-fallen row = by_test (row.left - 1 == 0) where
-  by_test : (c : Bool) → ((if c then record row { left = row.slice; marked = true } else record row { left = row.left - 1 }).base ≡ row.base) × ((if c then record row { left = row.slice; marked = true } else record row { left = row.left - 1 }).stage ≡ row.stage)
-  by_test true = (refl, refl)
-  by_test false = (refl, refl)
-
 -- after a thread has left its wait, its stage says that it waits for no object
 pub set-twice : {A : Type 0} (xs : List A) (t : ℕ) (x y : A) → slice_set (slice_set xs t x) t y ≡ slice_set xs t y
 set-twice [] t x y = refl

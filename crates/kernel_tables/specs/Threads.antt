@@ -1,9 +1,10 @@
 -- What the row of a thread stands for.
-use Rattle.std.specs.Prelude.{◌≡◌, ℕ, Bool, not, ◌&&◌, List, [], None, slice_set, slice_index_or}
+use Rattle.std.specs.Prelude.{◌≡◌, ◌==◌, ◌-◌, ℕ, Bool, true, not, ◌&&◌, List, [], None, slice_set, slice_index_or, if◌then◌else◌}
 use Rattle.std.specs.Str.{bytes_eq}
 use Rattle.rt_plain.specs.State.{Thread, Stage, Initial, Active, Waiting, Suspended, Closed, InCall, no_thread, is_closed}
 use Rattle.kernel_tables.specs.declared.place.Place.{Place}
 use Rattle.kernel_tables.specs.declared.rows.Row.{Row}
+use Rattle.kernel_tables.specs.declared.vars.Vars.{Vars}
 
 -- where a thread stands
 abbrev pub stage_of : Place → Stage
@@ -18,19 +19,31 @@ abbrev pub plain_thread : Row → Thread
 plain_thread r = record {
   name = r.name;
   base = r.base;
-  slice = r.slice;
-  left = r.left;
+  slice = r.vars.slice;
+  left = r.vars.left;
   core = None;
   stage = stage_of r.place;
-  next = r.next;
-  code = r.code;
-  value = r.value;
+  next = r.vars.next;
+  code = r.vars.code;
+  value = r.vars.value;
   text = [];
-  counter = r.counter;
-  locks = r.locks;
-  marked = r.marked;
+  counter = r.vars.counter;
+  locks = r.vars.locks;
+  marked = r.vars.marked;
   retry = None;
 }
+
+-- what a thread has that no wait list depends on
+abbrev pub vars_of : Thread → Vars
+vars_of row = record { slice = row.slice; left = row.left; next = row.next; code = row.code; value = row.value; counter = row.counter; locks = row.locks; marked = row.marked }
+
+-- a thread with other such variables
+abbrev pub with_vars : Vars → Thread → Thread
+with_vars vars row = record row { slice = vars.slice; left = vars.left; next = vars.next; code = vars.code; value = vars.value; counter = vars.counter; locks = vars.locks; marked = vars.marked }
+
+-- these variables after one tick of the slice
+abbrev pub vars_after_slice : Vars → Vars
+vars_after_slice vars = if vars.left - 1 == 0 then record vars { left = vars.slice; marked = true } else record vars { left = vars.left - 1 }
 
 -- the threads with another row for one of them
 abbrev pub with_row : List Thread → ℕ → (Thread → Thread) → List Thread

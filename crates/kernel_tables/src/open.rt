@@ -11,6 +11,7 @@ use crate::place::Place;
 use crate::queue::Queue;
 use crate::rows::{Row, Rows};
 use crate::tables::Tables;
+use crate::vars::Vars;
 use ipc_counts::{EventObj, Sem};
 use object_box::{ClassLimits, Objects};
 use rt_base::{Class, Code, ThreadNo, WaitOrder};
@@ -36,15 +37,17 @@ fn row_of(def: &ThreadDef) -> Row
     Row {
         name: def.name.copy(),
         base: def.prio,
-        slice: def.slice,
-        left: def.slice,
         place: first_place(def.started),
-        next: 1,
-        code: Code::Ok,
-        value: 0,
-        counter: 0,
-        locks: 0,
-        marked: false,
+        vars: Vars {
+            slice: def.slice,
+            left: def.slice,
+            next: 1,
+            code: Code::Ok,
+            value: 0,
+            counter: 0,
+            locks: 0,
+            marked: false,
+        },
     }
 }
 

@@ -4,29 +4,22 @@ ghost use Rattle.rt_plain.specs.State.{is_closed, is_initial, is_suspended, Clos
 ghost use Rattle.rt_plain.specs.Sound.{is_waiting};
 ghost use Rattle.rt_plain.specs.Due.{timeout_code};
 ghost use Rattle.rt_plain.specs.Rows.{state_at};
-ghost use Rattle.rt_plain.specs.Ticks.{thread_after_slice};
 ghost use Rattle.kernel_tables.specs.Tabled.{woken_row, given_row};
-ghost use Rattle.kernel_tables.specs.Threads.{stage_of, plain_thread, with_row, row_at, is_found, ArePlain};
+ghost use Rattle.kernel_tables.specs.Threads.{stage_of, plain_thread, with_row, row_at, vars_of, with_vars, is_found, ArePlain};
 
 use crate::place::Place;
+use crate::vars::Vars;
 use rt_base::{Code, Name, Prio, ThreadNo};
 use rt_plain::ThreadState;
 use std::marker::Model;
 
-/// A thread: its priority and slice, where it stands, and what its last calls left.
+/// A thread: its priority, where it stands, and the rest.
 #[derive(Drop)]
 pub struct Row {
     pub name: Name,
     pub base: Prio,
-    pub slice: u8,
-    pub left: u8,
     pub place: Place,
-    pub next: u16,
-    pub code: Code,
-    pub value: u32,
-    pub counter: u16,
-    pub locks: u8,
-    pub marked: bool,
+    pub vars: Vars,
 }
 
 impl Row {
@@ -35,18 +28,6 @@ impl Row {
         ensures { result ≡ is_found name.now (plain_thread self.now) }
     {
         !self.place.is_closed() && self.name.bytes() == name
-    }
-
-    // One tick less of the slice. A slice that is used up begins anew, and the thread gets the mark.
-    fn fall(&mut self)
-        ensures { plain_thread self.new ≡ thread_after_slice (plain_thread self.old) }
-    {
-        if self.left <= 1 {
-            self.left = self.slice;
-            self.marked = true;
-        } else {
-            self.left -= 1;
-        }
     }
 }
 
@@ -130,7 +111,7 @@ impl Rows {
         requires { t < length self.now }
         ensures { result ≡ (row_at self.now t).left }
     {
-        self.items[t.0 as usize].left
+        self.items[t.0 as usize].vars.left
     }
 
     /// The number of the statement that a thread does next.
@@ -138,7 +119,7 @@ impl Rows {
         requires { t < length self.now }
         ensures { result ≡ (row_at self.now t).next }
     {
-        self.items[t.0 as usize].next
+        self.items[t.0 as usize].vars.next
     }
 
     /// The last code of a thread.
@@ -146,7 +127,7 @@ impl Rows {
         requires { t < length self.now }
         ensures { result ≡ (row_at self.now t).code }
     {
-        self.items[t.0 as usize].code
+        self.items[t.0 as usize].vars.code
     }
 
     /// The last value of a thread.
@@ -154,15 +135,7 @@ impl Rows {
         requires { t < length self.now }
         ensures { result ≡ (row_at self.now t).value }
     {
-        self.items[t.0 as usize].value
-    }
-
-    /// The counter of a thread.
-    pub fn counter(&self, t: ThreadNo) -> u16
-        requires { t < length self.now }
-        ensures { result ≡ (row_at self.now t).counter }
-    {
-        self.items[t.0 as usize].counter
+        self.items[t.0 as usize].vars.value
     }
 
     /// How many scheduler locks a thread has.
@@ -170,7 +143,7 @@ impl Rows {
         requires { t < length self.now }
         ensures { result ≡ (row_at self.now t).locks }
     {
-        self.items[t.0 as usize].locks
+        self.items[t.0 as usize].vars.locks
     }
 
     /// Whether a thread has the mark.
@@ -178,7 +151,15 @@ impl Rows {
         requires { t < length self.now }
         ensures { result ≡ (row_at self.now t).marked }
     {
-        self.items[t.0 as usize].marked
+        self.items[t.0 as usize].vars.marked
+    }
+
+    /// The variables of a thread.
+    pub fn vars(&self, t: ThreadNo) -> Vars
+        requires { t < length self.now }
+        ensures { result ≡ vars_of (row_at self.now t) }
+    {
+        self.items[t.0 as usize].vars
     }
 
     /// Whether a thread has ended.
@@ -255,49 +236,13 @@ impl Rows {
         row.place = Place::Closed;
     }
 
-    // The thread does this statement next.
-    pub(crate) fn set_next(&mut self, t: ThreadNo, next: u16)
+    // The thread has these variables.
+    pub(crate) fn set_vars(&mut self, t: ThreadNo, vars: Vars)
         requires { t < length self.old }
-        ensures { self.new ≡ with_row self.old t (λ row. record row { next = next }) }
+        ensures { self.new ≡ with_row self.old t (with_vars vars) }
     {
         let row = &mut self.items[t.0 as usize];
-        row.next = next;
-    }
-
-    // The thread has this last code.
-    pub(crate) fn set_code(&mut self, t: ThreadNo, code: Code)
-        requires { t < length self.old }
-        ensures { self.new ≡ with_row self.old t (λ row. record row { code = code }) }
-    {
-        let row = &mut self.items[t.0 as usize];
-        row.code = code;
-    }
-
-    // The thread has this last value.
-    pub(crate) fn set_value(&mut self, t: ThreadNo, value: u32)
-        requires { t < length self.old }
-        ensures { self.new ≡ with_row self.old t (λ row. record row { value = value }) }
-    {
-        let row = &mut self.items[t.0 as usize];
-        row.value = value;
-    }
-
-    // The counter of the thread is this.
-    pub(crate) fn set_counter(&mut self, t: ThreadNo, counter: u16)
-        requires { t < length self.old }
-        ensures { self.new ≡ with_row self.old t (λ row. record row { counter = counter }) }
-    {
-        let row = &mut self.items[t.0 as usize];
-        row.counter = counter;
-    }
-
-    // The thread has so many scheduler locks.
-    pub(crate) fn set_locks(&mut self, t: ThreadNo, locks: u8)
-        requires { t < length self.old }
-        ensures { self.new ≡ with_row self.old t (λ row. record row { locks = locks }) }
-    {
-        let row = &mut self.items[t.0 as usize];
-        row.locks = locks;
+        row.vars = vars;
     }
 
     // The thread has another base priority.
@@ -315,7 +260,7 @@ impl Rows {
         ensures { self.new ≡ with_row self.old t (woken_row code) }
     {
         let row = &mut self.items[t.0 as usize];
-        row.code = code;
+        row.vars.code = code;
         row.place = Place::Active;
     }
 
@@ -325,36 +270,8 @@ impl Rows {
         ensures { self.new ≡ with_row self.old t (given_row flags) }
     {
         let row = &mut self.items[t.0 as usize];
-        row.value = flags;
-        row.code = Code::Ok;
+        row.vars.value = flags;
+        row.vars.code = Code::Ok;
         row.place = Place::Active;
-    }
-
-    // The mark of the thread is gone.
-    pub(crate) fn unmark(&mut self, t: ThreadNo)
-        requires { t < length self.old }
-        ensures { self.new ≡ with_row self.old t (λ row. record row { marked = false }) }
-    {
-        let row = &mut self.items[t.0 as usize];
-        row.marked = false;
-    }
-
-    // The thread has a whole slice again, and the mark.
-    pub(crate) fn yield_slice(&mut self, t: ThreadNo)
-        requires { t < length self.old }
-        ensures { self.new ≡ with_row self.old t (λ row. record row { left = row.slice; marked = true }) }
-    {
-        let row = &mut self.items[t.0 as usize];
-        row.left = row.slice;
-        row.marked = true;
-    }
-
-    // One tick less of the slice of a thread.
-    pub(crate) fn fall(&mut self, t: ThreadNo)
-        requires { t < length self.old }
-        ensures { self.new ≡ with_row self.old t thread_after_slice }
-    {
-        let row = &mut self.items[t.0 as usize];
-        row.fall();
     }
 }

@@ -2,11 +2,12 @@ ghost use Rattle.std.specs.Prelude.{◌≡◌, ◌<◌, length, true, false, Non
 ghost use Rattle.rt_plain.specs.State.{Closed, Waiting, InCall};
 ghost use Rattle.rt_plain.specs.Ticks.{thread_after_slice};
 ghost use Rattle.kernel_tables.specs.Tabled.{is_unlisted, knows};
-ghost use Rattle.kernel_tables.specs.Threads.{stage_of, with_row};
+ghost use Rattle.kernel_tables.specs.Threads.{stage_of, with_row, with_vars};
 
 use crate::lists::Lists;
 use crate::place::Place;
 use crate::rows::Rows;
+use crate::vars::Vars;
 use rt_base::{Code, Prio, ThreadNo};
 use rt_plain::Call;
 use std::marker::Model;
@@ -77,12 +78,22 @@ impl Tables {
         self.rows.set_base(t, base);
     }
 
+    /// The thread has these variables.
+    pub fn set_vars(&mut self, t: ThreadNo, vars: Vars)
+        requires { t < length self.old.threads }
+        ensures { self.new ≡ record self.old { threads = with_row self.old.threads t (with_vars vars) } }
+    {
+        self.rows.set_vars(t, vars);
+    }
+
     /// The thread does this statement next.
     pub fn set_next(&mut self, t: ThreadNo, next: u16)
         requires { t < length self.old.threads }
         ensures { self.new ≡ record self.old { threads = with_row self.old.threads t (λ row. record row { next = next }) } }
     {
-        self.rows.set_next(t, next);
+        let mut vars = self.rows.vars(t);
+        vars.next = next;
+        self.set_vars(t, vars);
     }
 
     /// The thread has this last code.
@@ -90,31 +101,9 @@ impl Tables {
         requires { t < length self.old.threads }
         ensures { self.new ≡ record self.old { threads = with_row self.old.threads t (λ row. record row { code = code }) } }
     {
-        self.rows.set_code(t, code);
-    }
-
-    /// The thread has this last value.
-    pub fn set_value(&mut self, t: ThreadNo, value: u32)
-        requires { t < length self.old.threads }
-        ensures { self.new ≡ record self.old { threads = with_row self.old.threads t (λ row. record row { value = value }) } }
-    {
-        self.rows.set_value(t, value);
-    }
-
-    /// The counter of the thread is this.
-    pub fn set_counter(&mut self, t: ThreadNo, counter: u16)
-        requires { t < length self.old.threads }
-        ensures { self.new ≡ record self.old { threads = with_row self.old.threads t (λ row. record row { counter = counter }) } }
-    {
-        self.rows.set_counter(t, counter);
-    }
-
-    /// The thread has so many scheduler locks.
-    pub fn set_locks(&mut self, t: ThreadNo, locks: u8)
-        requires { t < length self.old.threads }
-        ensures { self.new ≡ record self.old { threads = with_row self.old.threads t (λ row. record row { locks = locks }) } }
-    {
-        self.rows.set_locks(t, locks);
+        let mut vars = self.rows.vars(t);
+        vars.code = code;
+        self.set_vars(t, vars);
     }
 
     /// The mark of the thread is gone.
@@ -122,22 +111,18 @@ impl Tables {
         requires { t < length self.old.threads }
         ensures { self.new ≡ record self.old { threads = with_row self.old.threads t (λ row. record row { marked = false }) } }
     {
-        self.rows.unmark(t);
+        let mut vars = self.rows.vars(t);
+        vars.marked = false;
+        self.set_vars(t, vars);
     }
 
-    /// The thread has a whole slice again, and the mark.
-    pub fn yield_slice(&mut self, t: ThreadNo)
-        requires { t < length self.old.threads }
-        ensures { self.new ≡ record self.old { threads = with_row self.old.threads t (λ row. record row { left = row.slice; marked = true }) } }
-    {
-        self.rows.yield_slice(t);
-    }
-
-    /// One tick less of the slice of a thread.
+    /// One tick less of the slice of a thread. A slice that is used up begins anew, and the thread gets the mark.
     pub fn fall(&mut self, t: ThreadNo)
         requires { t < length self.old.threads }
         ensures { self.new ≡ record self.old { threads = with_row self.old.threads t thread_after_slice } }
     {
-        self.rows.fall(t);
+        let mut vars = self.rows.vars(t);
+        vars.fall();
+        self.set_vars(t, vars);
     }
 }

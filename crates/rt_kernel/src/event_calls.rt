@@ -68,7 +68,9 @@ impl Records {
         match self.tables.receive(name, want) {
             None => self.refuse(t, k, Code::Inval, out),
             Some(Some(flags)) => {
-                self.tables.set_value(t, flags);
+                let mut vars = self.tables.rows().vars(t);
+                vars.value = flags;
+                self.tables.set_vars(t, vars);
                 self.succeed(t, k, out)
             }
             Some(None) => {

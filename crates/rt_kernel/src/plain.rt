@@ -82,9 +82,10 @@ impl Records {
         ensures state { (script : List Stmt) (k : ℕ) → to ≡ target script k → state_of self.new ≡ (plain_effect script t (Stmt.Next k) (state_of self.old)).state }
         ensures limits { limits_of self.new.tables ≡ limits_of self.old.tables }
     {
-        let counter = self.tables.rows().counter(t).saturating_sub(1);
-        self.tables.set_counter(t, counter);
-        if counter != 0 {
+        let mut vars = self.tables.rows().vars(t);
+        vars.counter = vars.counter.saturating_sub(1);
+        self.tables.set_vars(t, vars);
+        if vars.counter != 0 {
             self.tables.set_next(t, to);
         }
     }
@@ -111,7 +112,11 @@ impl Records {
                     self.tables.set_next(t, target(script, *k));
                 }
             }
-            Stmt::Count(n) => self.tables.set_counter(t, *n),
+            Stmt::Count(n) => {
+                let mut vars = self.tables.rows().vars(t);
+                vars.counter = *n;
+                self.tables.set_vars(t, vars);
+            }
             Stmt::Next(k) => self.count_down(t, target(script, *k)),
             Stmt::Exit => self.close(t, out),
             Stmt::Do(_) => unreachable!(),

@@ -109,7 +109,10 @@ impl Records {
         ensures out_room { out.new.room ≡ out.old.room }
     {
         self.show_done(t, k, Some(Code::Ok), out);
-        self.tables.yield_slice(t);
+        let mut vars = self.tables.rows().vars(t);
+        vars.left = vars.slice;
+        vars.marked = true;
+        self.tables.set_vars(t, vars);
         self.tables.set_code(t, Code::Ok);
         Answer::Code(Code::Ok)
     }
@@ -238,12 +241,13 @@ impl Records {
         ensures few { length out.new.items ≤ length out.old.items + 1 }
         ensures out_room { out.new.room ≡ out.old.room }
     {
-        let locks = self.tables.rows().locks(t);
-        if locks == u8::MAX {
+        let mut vars = self.tables.rows().vars(t);
+        if vars.locks == u8::MAX {
             return self.refuse(t, k, Code::Full, out);
         }
         self.show_done(t, k, Some(Code::Ok), out);
-        self.tables.set_locks(t, locks + 1);
+        vars.locks += 1;
+        self.tables.set_vars(t, vars);
         self.tables.set_code(t, Code::Ok);
         Answer::Code(Code::Ok)
     }
@@ -260,12 +264,13 @@ impl Records {
         ensures few { length out.new.items ≤ length out.old.items + 1 }
         ensures out_room { out.new.room ≡ out.old.room }
     {
-        let locks = self.tables.rows().locks(t);
-        if locks == 0 {
+        let mut vars = self.tables.rows().vars(t);
+        if vars.locks == 0 {
             return self.refuse(t, k, Code::Error, out);
         }
         self.show_done(t, k, Some(Code::Ok), out);
-        self.tables.set_locks(t, locks - 1);
+        vars.locks -= 1;
+        self.tables.set_vars(t, vars);
         self.tables.set_code(t, Code::Ok);
         Answer::Code(Code::Ok)
     }

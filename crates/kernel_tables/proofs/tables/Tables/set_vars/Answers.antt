@@ -1,12 +1,10 @@
 use Rattle.std.proofs.Common.{refl, sym, subst, ◌<◌, length}
-use Rattle.rt_plain.specs.State.{Thread}
 use Rattle.kernel_tables.specs.Tabled.{Tabled}
-use Rattle.kernel_tables.specs.Threads.{row_at}
+use Rattle.kernel_tables.specs.Threads.{row_at, with_vars}
 use Rattle.kernel_tables.proofs.TableLemmas.{stage-kept}
-use Rattle.kernel_tables.proofs.tables.Tables.set_locks.Goals as goal
+use Rattle.kernel_tables.proofs.tables.Tables.set_vars.Goals as goal
 
 pub invariant_of-self : goal.invariant_of-self
 invariant_of-self c =
     let there : c.args.t < length c.self.inside.rows = subst (λ (k : Tabled). c.args.t < length k.threads) (sym c.self.view_is) c.requires in
-    let row : Thread = row_at c.self.inside.rows c.args.t in
-    rw c.set_locks.ensures (stage-kept c.self.inside.rows c.self.inside.lists c.args.t (record row { locks = c.args.locks }) c.self.invariant there refl refl)
+    rw c.set_vars.ensures (stage-kept c.self.inside.rows c.self.inside.lists c.args.t (with_vars c.args.vars (row_at c.self.inside.rows c.args.t)) c.self.invariant there refl refl)
