@@ -17,6 +17,7 @@ pub mod TickLemmas
 pub mod StepLemmas
 pub mod OpenLemmas
 pub mod ActionLemmas
+pub mod EventLemmas
 pub mod SoundLemmas
 pub mod NumberLemmas
 pub mod SplitLemmas
