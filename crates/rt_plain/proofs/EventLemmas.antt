@@ -42,7 +42,7 @@ use Rattle.rt_plain.proofs.TickLemmas.{still}
 use Rattle.rt_plain.proofs.ActionLemmas.{IsLevelledThread, AreLevelled, Leaves, IsQuiet, works-append, leaves-same, leaves-parts, leaves-then, leaves-from, leaves-after, leaves-line, row-leaves, active-leaves, wake-leaves, retry_wake-leaves, each-leaves, for-leaves, give_back-leaves, close-leaves, waiting-leaves, sem_release-leaves, outcome-leaves}
 use Rattle.rt_plain.proofs.TestLemmas.{and-left, and-right, clash, some-is}
 
-quiet-works : (works : List (List ℕ)) (lines : List Line) → AllByRecursion IsQuiet lines → works_from (Some works) lines ≡ Some works
+pub quiet-works : (works : List (List ℕ)) (lines : List Line) → AllByRecursion IsQuiet lines → works_from (Some works) lines ≡ Some works
 quiet-works works [] all = refl
 quiet-works works (line ∷ lines) all = ap (λ now. works_from now lines) (all.0 works) ∙ quiet-works works lines all.1
 
@@ -94,7 +94,7 @@ found-there p (x ∷ xs) none some = by_test (p x) none some (found-there p xs) 
   by_test false none some more = more none some
 
 -- what none counts as is not there
-none-there : (works : List (List ℕ)) (name : List ℕ) → tally (is_work_of (OfTimer name)) works ≡ 0 → is_work works name ≡ false
+pub none-there : (works : List (List ℕ)) (name : List ℕ) → tally (is_work_of (OfTimer name)) works ≡ 0 → is_work works name ≡ false
 none-there [] name none = refl
 none-there (work ∷ works) name none = by_test (bytes_eq work name) none (none-there works name) where
   by_test : (c : Bool) → one_if c + tally (is_work_of (OfTimer name)) works ≡ 0 → (tally (is_work_of (OfTimer name)) works ≡ 0 → is_work works name ≡ false) → c || is_work works name ≡ false
@@ -112,7 +112,7 @@ module _ (b : PlainBoard) where
     by_test false = leaves-line b s (no_effect s) (Line.Mode (sleep_mode b s)) (λ works. refl) (leaves-same b s)
 
   -- what follows from an action
-  settled-leaves : (before s : State) (e : Effect) → Leaves b s e → Leaves b s (settled_effect b before e)
+  pub settled-leaves : (before s : State) (e : Effect) → Leaves b s e → Leaves b s (settled_effect b before e)
   settled-leaves before s e leaves =
       let prio : Effect = record { state = e.state; lines = e.lines ++ prio_lines before e.state } in
       let mode : Effect = record { state = e.state; lines = prio.lines ++ mode_lines b before e.state } in
@@ -233,7 +233,7 @@ module _ (b : PlainBoard) where
     by_answer Waits = nothing
   timer-leaves s works line name (Some _) nothing coded fits = told-leaves s works (line Fired.Nothing) (no_effect s) nothing (leaves-same b s)
 
-  action-leaves : (s : State) (works : List (List ℕ)) (line : Fired → Line) (timer : Timer) → works_after (line Fired.Nothing) works ≡ Some s.works → ((code : Code) → works_after (line (Fired.Code code)) works ≡ Some s.works) → IsBoardTimer b timer → Leaves b (record s { works = works }) (timer_action_effect b line timer s)
+  pub action-leaves : (s : State) (works : List (List ℕ)) (line : Fired → Line) (timer : Timer) → works_after (line Fired.Nothing) works ≡ Some s.works → ((code : Code) → works_after (line (Fired.Code code)) works ≡ Some s.works) → IsBoardTimer b timer → Leaves b (record s { works = works }) (timer_action_effect b line timer s)
   action-leaves s works line timer nothing coded is = by_kind timer.kind where
     told : (u : State) → u.works ≡ s.works → u.arrivals ≡ s.arrivals → u.threads ≡ s.threads → Leaves b (record s { works = works }) (timer_effect b line timer.name timer.call u)
     told u same arrivals threads = leaves-from b (record s { works = works }) (record u { works = works }) (timer_effect b line timer.name timer.call u) (leaves-parts b (record s { works = works }) (record u { works = works }) refl arrivals threads)
@@ -270,6 +270,6 @@ module _ (b : PlainBoard) where
         known : AllByRecursion (IsKnownWork s.timers) (name ∷ names)
         known = subst (AllByRecursion (IsKnownWork s.timers)) is kept.works_known
 
-  statement-leaves : (now : ℕ) (s : State) (t core : ℕ) → Kept (still b now) s → Leaves b s (statement_effect b t core s)
+  pub statement-leaves : (now : ℕ) (s : State) (t core : ℕ) → Kept (still b now) s → Leaves b s (statement_effect b t core s)
   statement-leaves now s t core kept = settled-leaves s s (thread_effect b t core s) (if-leaves s (is_shell b t) (shell_effect b t s) _ (λ shell. shell-leaves s t)
       (λ unshell. if-leaves s (is_soft_thread b t) (soft_effect b t s) _ (λ soft. softly-leaves (still b now) s t s.works refl refl kept) (λ hard. script-leaves now s t core (thread_at s t).retry (fine-at (still b now) s t kept).1)))

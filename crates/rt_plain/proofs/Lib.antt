@@ -18,6 +18,7 @@ pub mod StepLemmas
 pub mod OpenLemmas
 pub mod ActionLemmas
 pub mod EventLemmas
+pub mod FollowLemmas
 pub mod SoundLemmas
 pub mod NumberLemmas
 pub mod SplitLemmas
