@@ -179,14 +179,14 @@ module _ (b : PlainBoard) where
   if-follows s true x y one other = one refl
   if-follows s false x y one other = other refl
 
-  follows-then : (s mid new : State) (one two : List Line) → Follows b s mid one → Follows b mid new two → Follows b s new (one ++ two)
+  pub follows-then : (s mid new : State) (one two : List Line) → Follows b s mid one → Follows b mid new two → Follows b s new (one ++ two)
   follows-then s mid new one two first second = record {
     works = works-append (Some s.works) one two ∙ ap (λ works. works_from works two) first.works ∙ second.works;
     ahead = λ ahead. second.ahead (first.ahead ahead);
     levelled = λ has all. second.levelled has (first.levelled has all);
   }
 
-  quiet-follows : (s : State) (lines : List Line) → AllByRecursion IsQuiet lines → Follows b s s lines
+  pub quiet-follows : (s : State) (lines : List Line) → AllByRecursion IsQuiet lines → Follows b s s lines
   quiet-follows s lines quiet = record { works = quiet-works s.works lines quiet; ahead = λ ahead. ahead; levelled = λ has all. all }
 
   line-follows : (s new : State) (line : Line) (lines : List Line) → IsQuiet line → Follows b s new lines → Follows b s new (line ∷ lines)

@@ -20,6 +20,7 @@ pub mod ActionLemmas
 pub mod EventLemmas
 pub mod FollowLemmas
 pub mod SoundLemmas
+pub mod LastingLemmas
 pub mod NumberLemmas
 pub mod SplitLemmas
 pub mod QuoteLemmas
