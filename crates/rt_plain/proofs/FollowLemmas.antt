@@ -68,8 +68,8 @@ module _ (b : PlainBoard) where
   row-fires : (f : Frame) (s : State) (row : ArmedRow Alarm) → f.board ≡ b → IsDueRow f.now s.threads s.armed row → Kept f s → Leaves b s (fired_row_effect b row s)
   row-fires f s row same is kept = settled-leaves b s s (alarm_effect b row.alarm (without_alarm s row.alarm)) (leaves-from b s (without_alarm s row.alarm) (alarm_effect b row.alarm (without_alarm s row.alarm)) (leaves-parts b s (without_alarm s row.alarm) refl refl refl)
       (alarm-leaves f (without_alarm s row.alarm) row.alarm same alone (without_alarm-kept f s row.alarm kept))) where
-    alone : standings row.alarm s.works (without_alarm s row.alarm).armed ≡ 0
-    alone = omega (arith, kept.single row.alarm, is.listed, tally-dropped (λ (r : ArmedRow Alarm). is_alarm row.alarm r.alarm) s.armed)
+        alone : standings row.alarm s.works (without_alarm s row.alarm).armed ≡ 0
+        alone = omega (arith, kept.single row.alarm, is.listed, tally-dropped (λ (r : ArmedRow Alarm). is_alarm row.alarm r.alarm) s.armed)
 
   -- all that are due fire
   due-leaves : (now few n : ℕ) (s : State) → tally (λ (r : ArmedRow Alarm). eqb r.due now) s.armed ≤ n → Kept (firing b now few) s → Leaves b s (due_rows_effect b n (due s) s)
@@ -224,20 +224,20 @@ module _ (b : PlainBoard) where
       (follows-then s rest.state rest.state (suspends ++ rest.lines) resumes (follows-then s s rest.state suspends rest.lines (quiet-follows s suspends (devices-quiet (λ x. Line.Suspend x.name) (λ x works. refl) (powered_devices s))) (ticks-follow (d - 1) now s kept))
       (quiet-follows rest.state resumes (devices-quiet (λ x. Line.Resume x.name) (λ x works. refl) (reverse (powered_devices s)))))
       (line-follows rest.state last.state (Line.Tick (shown b last.state.moment)) last.lines (λ works. refl) (tick-follows slept.0 rest.state slept.1))) where
-    rest : Effect
-    rest = ticks b (d - 1) s
+        rest : Effect
+        rest = ticks b (d - 1) s
 
-    last : Effect
-    last = tick_effect b rest.state
+        last : Effect
+        last = tick_effect b rest.state
 
-    suspends : List Line
-    suspends = map (λ x. Line.Suspend x.name) (powered_devices s)
+        suspends : List Line
+        suspends = map (λ x. Line.Suspend x.name) (powered_devices s)
 
-    resumes : List Line
-    resumes = map (λ x. Line.Resume x.name) (reverse (powered_devices s))
+        resumes : List Line
+        resumes = map (λ x. Line.Resume x.name) (reverse (powered_devices s))
 
-    slept : KeptAt b rest.state
-    slept = ticks-kept b (d - 1) now s kept
+        slept : KeptAt b rest.state
+        slept = ticks-kept b (d - 1) now s kept
 
 module _ (b : PlainBoard) (now : ℕ) (s : State) (timed : IsProper b) (kept : Kept (still b now) s) where
   halting-follows : (o : Option Halt) → FollowsDid b s (halting_rest_did b o s)

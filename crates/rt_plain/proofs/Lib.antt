@@ -43,6 +43,7 @@ pub mod TickCosts
 pub mod CanonLemmas
 pub mod ValidLemmas
 pub mod RunnableLemmas
+pub mod LevelLemmas
 pub mod RoomLemmas
 pub mod FireLemmas
 pub mod RowLemmas
