@@ -47,3 +47,7 @@ pub mod LevelLemmas
 pub mod RoomLemmas
 pub mod FireLemmas
 pub mod RowLemmas
+pub mod AwakeLemmas
+pub mod DeedLemmas
+pub mod AlikeLemmas
+pub mod TicklessLemmas
