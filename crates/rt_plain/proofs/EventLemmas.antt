@@ -1,12 +1,9 @@
 -- What statements, ticks and events leave: the works that their lines tell, what is to arrive, and priorities and bindings that the board has.
-use Rattle.std.proofs.Common.{◌≡◌, ◌+◌, ◌-◌, ◌<◌, ◌≤◌, ◌∷◌, [], ◌++◌, ℕ, zero, suc, List, Option, Some, None, Bool, true, false, not, ◌&&◌, ◌||◌, IsTrue, is_some, cond, length, eqb, bytes_eq, refl, sym, ap, ◌∙◌, subst, arith, slice_get, unwrap_or, option_map, filter, filter_map, map, reverse, if◌then◌else◌}
-use Rattle.std.specs.List.{AllByRecursion, find, list_any, list_all, fold, before_first, after_first, cons_option}
+use Rattle.std.proofs.Common.{◌≡◌, ◌+◌, ◌-◌, ◌∷◌, [], ◌++◌, ℕ, zero, suc, List, Option, Some, None, Bool, true, false, not, ◌&&◌, ◌||◌, is_some, cond, eqb, bytes_eq, refl, sym, ap, ◌∙◌, subst, arith, slice_get, unwrap_or, option_map, filter_map, map, if◌then◌else◌}
+use Rattle.std.specs.List.{AllByRecursion, find, list_any, list_all, before_first, after_first, cons_option}
 use Rattle.std.proofs.lemmas.List.Elements.{recursion_from_All, All-contains}
 use Rattle.std.proofs.lemmas.Slice.Eq.{bytes_eq-Decides}
-use Rattle.std.proofs.lemmas.Bool.{eqb-false}
 use Rattle.rt_base.specs.declared.codes.Code.{Code}
-use Rattle.rt_base.specs.declared.codes.Event.{Event}
-use Rattle.rt_base.specs.declared.codes.Halt.{Halt}
 use Rattle.rt_base.specs.Codes.{code_number, sleep_number}
 use Rattle.rt_plain.specs.declared.line.Line.{Line}
 use Rattle.rt_plain.specs.declared.line.Fired.{Fired}
@@ -16,31 +13,28 @@ use Rattle.rt_plain.specs.declared.board.ThreadDef.{ThreadDef}
 use Rattle.rt_plain.specs.declared.board.TimerDef.{TimerDef}
 use Rattle.rt_plain.specs.declared.board.TimerKind.{TimerKind}
 use Rattle.rt_plain.specs.PlainBoard.{PlainBoard}
-use Rattle.rt_plain.specs.State.{State, Thread, Timer, Device, Arriving, Retry, Awaited, InCall, AtConsole, AtWorks, Alarm, OfThread, OfTimer, ArmedRow, no_thread, thread_at, thread_numbers, with_thread, running_on, is_closed, is_nest_of, is_nest_of_other}
-use Rattle.rt_plain.specs.Effects.{Effect, no_effect, line_effect, and_then, each_effect, effect_for, without_alarm, waiting_state, wake_effect, retry_wake_effect, with_ready_last, with_ready_first, name_of}
+use Rattle.rt_plain.specs.State.{State, Thread, Timer, Device, Retry, Awaited, InCall, AtConsole, AtWorks, OfTimer, thread_at, thread_numbers, with_thread, is_closed}
+use Rattle.rt_plain.specs.Effects.{Effect, no_effect, line_effect, and_then, waiting_state, name_of}
 use Rattle.rt_plain.specs.Outcome.{ByThread, ByTimer, First, Again, Answer, Answers, Waits, Outcome}
 use Rattle.rt_plain.specs.Calls.{outcome_of, has_new_cur, prio_line, prio_lines, mode_lines, reordered_state, settled_effect}
 use Rattle.rt_plain.specs.PowerCalls.{sleep_mode}
 use Rattle.rt_plain.specs.Priority.{cur}
-use Rattle.rt_plain.specs.Works.{has_work, with_work, work_waiter}
 use Rattle.rt_plain.specs.WorkLog.{works_after, works_from, is_work}
 use Rattle.rt_plain.specs.TimerCalls.{find_timer, with_timer_armed}
-use Rattle.rt_plain.specs.TimerKinds.{is_soft}
-use Rattle.rt_plain.specs.Due.{due, fired_code, with_period, timer_effect, timer_action_effect, soft_timer_effect, fired_timer_effect, alarm_effect, fired_row_effect, due_rows_effect, timeout_code, timeout_effect}
+use Rattle.rt_plain.specs.Due.{fired_code, with_period, timer_effect, timer_action_effect}
 use Rattle.rt_plain.specs.Shell.{longer_line, prompt_effect, turn_line, turn_effect, reading_effect, line_read_effect, shell_effect, console_bytes, with_received, with_console_bytes, console_name, is_newline, seen_of, prompt}
 use Rattle.rt_plain.specs.Tables.{table}
-use Rattle.rt_plain.specs.DeviceCalls.{find_device, with_device, ring_after, console_waiter, indication_effect, notice_effect, arrival_effect_at, arrival_effect, is_sending, sent, is_busy, registered_devices}
+use Rattle.rt_plain.specs.DeviceCalls.{find_device}
 use Rattle.rt_plain.specs.Statements.{script_of, statement_at, is_shell, is_soft_thread, with_next, target, print_effect, said_text, with_counter, plain_effect, with_answer, call_effect, done_effect, next_statement_effect, repeated_call_effect, script_effect, thread_effect, statement_effect}
 use Rattle.rt_plain.specs.SoftTurn.{work_effect, soft_turn_effect, soft_effect}
-use Rattle.rt_plain.specs.Owners.{close_effect}
-use Rattle.rt_plain.specs.Sound.{is_levelled_call, is_levelled, is_levelled_action, IsLevelled, IsBoardTimer, IsProper}
-use Rattle.rt_plain.proofs.TallyLemmas.{one_if, tally, all-found, all-filter}
-use Rattle.rt_plain.proofs.Invariant.{Frame, Kept, is_waiting_call, is_fine_awaited, IsFineRetry, IsFineTimer, is_owned, is_work_of, standings, IsKnownWork, fine-at, thread-kept}
+use Rattle.rt_plain.specs.Sound.{is_levelled_call, is_levelled, is_levelled_action, IsLevelled, IsBoardTimer}
+use Rattle.rt_plain.proofs.TallyLemmas.{one_if, tally, all-found}
+use Rattle.rt_plain.proofs.Invariant.{Frame, Kept, is_waiting_call, is_fine_awaited, IsFineRetry, is_owned, is_work_of, IsKnownWork, fine-at}
 use Rattle.rt_plain.proofs.ObjectLemmas.{found-timer, found-name}
-use Rattle.rt_plain.proofs.StatementLemmas.{statement-kept, left-kept}
+use Rattle.rt_plain.proofs.StatementLemmas.{left-kept}
 use Rattle.rt_plain.proofs.TickLemmas.{still}
-use Rattle.rt_plain.proofs.ActionLemmas.{IsLevelledThread, AreLevelled, Leaves, IsQuiet, works-append, leaves-same, leaves-parts, leaves-then, leaves-from, leaves-after, leaves-line, row-leaves, active-leaves, wake-leaves, retry_wake-leaves, each-leaves, for-leaves, give_back-leaves, close-leaves, waiting-leaves, sem_release-leaves, outcome-leaves}
-use Rattle.rt_plain.proofs.TestLemmas.{and-left, and-right, clash, some-is}
+use Rattle.rt_plain.proofs.ActionLemmas.{Leaves, IsQuiet, leaves-same, leaves-parts, leaves-then, leaves-from, leaves-after, leaves-line, row-leaves, close-leaves, waiting-leaves, outcome-leaves}
+use Rattle.rt_plain.proofs.TestLemmas.{and-left, and-right}
 
 pub quiet-works : (works : List (List ℕ)) (lines : List Line) → AllByRecursion IsQuiet lines → works_from (Some works) lines ≡ Some works
 quiet-works works [] all = refl

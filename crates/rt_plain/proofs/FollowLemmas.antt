@@ -1,37 +1,35 @@
 -- What ticks, events and runs leave: the works that their lines tell, arrivals that are ahead, and priorities and bindings that the board has.
-use Rattle.std.proofs.Common.{◌≡◌, ◌≢◌, ◌+◌, ◌-◌, ◌<◌, ◌≤◌, ◌∷◌, [], ◌++◌, ℕ, zero, suc, List, Option, Some, None, Bool, true, false, not, ◌&&◌, IsTrue, is_some, length, eqb, bytes_eq, refl, sym, ap, ◌∙◌, subst, arith, eq-eqb, filter, map, flat_map, reverse, if◌then◌else◌}
-use Rattle.std.specs.List.{AllByRecursion, list_any, fold}
+use Rattle.std.proofs.Common.{◌≡◌, ◌≢◌, ◌+◌, ◌-◌, ◌<◌, ◌≤◌, ◌∷◌, [], ◌++◌, ℕ, zero, suc, List, Option, Some, None, Bool, true, false, not, ◌&&◌, is_some, length, eqb, refl, sym, ap, ◌∙◌, subst, arith, filter, map, reverse, if◌then◌else◌}
+use Rattle.std.specs.List.{AllByRecursion, fold}
 use Rattle.std.proofs.lemmas.Bool.{eqb-false}
-use Rattle.rt_base.specs.declared.codes.Code.{Code}
 use Rattle.rt_base.specs.declared.codes.Event.{Event}
 use Rattle.rt_base.specs.declared.codes.Halt.{Halt}
-use Rattle.rt_plain.specs.declared.entry.Entry.{Entry}
 use Rattle.rt_plain.specs.declared.line.Line.{Line}
 use Rattle.rt_plain.specs.declared.line.Fired.{Fired}
 use Rattle.rt_plain.specs.PlainBoard.{PlainBoard}
 use Rattle.rt_plain.specs.State.{State, Thread, Timer, Device, Arriving, Alarm, OfThread, OfTimer, ArmedRow, thread_at, running_on, is_nest_of_other}
-use Rattle.rt_plain.specs.Effects.{Effect, no_effect, line_effect, and_then, each_effect, effect_for, without_alarm, wake_effect, retry_wake_effect, with_ready_last, with_ready_first, name_of, is_alarm}
-use Rattle.rt_plain.specs.Works.{has_work, with_work, work_waiter}
-use Rattle.rt_plain.specs.WorkLog.{works_after, works_from, is_work}
+use Rattle.rt_plain.specs.Effects.{Effect, no_effect, line_effect, and_then, effect_for, without_alarm, wake_effect, retry_wake_effect, with_ready_last, with_ready_first, name_of, is_alarm}
+use Rattle.rt_plain.specs.Works.{with_work, work_waiter}
+use Rattle.rt_plain.specs.WorkLog.{works_from}
 use Rattle.rt_plain.specs.TimerCalls.{find_timer}
 use Rattle.rt_plain.specs.TimerKinds.{is_soft}
-use Rattle.rt_plain.specs.Due.{due, soft_timer_effect, timer_action_effect, fired_timer_effect, alarm_effect, fired_row_effect, due_rows_effect, timeout_code, timeout_effect}
+use Rattle.rt_plain.specs.Due.{due, soft_timer_effect, fired_timer_effect, alarm_effect, fired_row_effect, due_rows_effect, timeout_code}
 use Rattle.rt_plain.specs.DeviceCalls.{find_device, with_device, ring_after, console_waiter, indication_effect, notice_effect, arrival_effect_at, arrival_effect, is_sending, sent, is_busy, registered_devices}
 use Rattle.rt_plain.specs.PowerCalls.{sleep_mode}
 use Rattle.rt_plain.specs.Shown.{shown}
 use Rattle.rt_plain.specs.Ticks.{thread_after_slice, with_slice_used, next_tick_state, alarms_effect, arrivals_now, deliveries, transmissions, with_until_halt, tick_effect}
-use Rattle.rt_plain.specs.Sleeps.{Did, Made, Same, Halted, ticks, sleep_effect, sleep_did, sleep_length, powered_devices, may_sleep, awake_rest_did, halting_rest_did, is_quiet, final_halt, rest_did}
+use Rattle.rt_plain.specs.Sleeps.{Did, Made, Same, Halted, ticks, sleep_did, sleep_length, powered_devices, may_sleep, awake_rest_did, halting_rest_did, is_quiet, final_halt, rest_did}
 use Rattle.rt_plain.specs.Statements.{statement_effect}
 use Rattle.rt_plain.specs.Pick.{pick}
-use Rattle.rt_plain.specs.Steps.{happens, with_running, without_mark, preempted_state, is_preemptible, takes_from, run_did, preempt_did, did_of_effect, statement_did, busy_core_did, is_all_idle, free_core_did, core_did, unhalted_step_did, unhalted_tick_did}
+use Rattle.rt_plain.specs.Steps.{happens, with_running, without_mark, preempted_state, is_preemptible, takes_from, preempt_did, did_of_effect, statement_did, busy_core_did, is_all_idle, free_core_did, core_did, unhalted_step_did, unhalted_tick_did}
 use Rattle.rt_plain.specs.Sound.{IsLevelled, IsBoardTimer, IsProper}
-use Rattle.rt_plain.proofs.TallyLemmas.{one_if, tally, tally-dropped, all-weaker, all-passing, all-filter}
-use Rattle.rt_plain.proofs.Invariant.{Frame, Kept, IsFineTimer, is_work_of, standings, fine-at, thread-kept, without_alarm-kept}
+use Rattle.rt_plain.proofs.TallyLemmas.{tally, tally-dropped, all-passing}
+use Rattle.rt_plain.proofs.Invariant.{Frame, Kept, standings, fine-at, thread-kept, without_alarm-kept}
 use Rattle.rt_plain.proofs.ObjectLemmas.{found-timer, found-name}
 use Rattle.rt_plain.proofs.StatementLemmas.{statement-kept}
-use Rattle.rt_plain.proofs.TickLemmas.{IsDueRow, with_few, still, firing, due-length, due-rows, row-kept, next-kept, alarms-kept, tick-kept}
+use Rattle.rt_plain.proofs.TickLemmas.{IsDueRow, still, firing, due-length, due-rows, row-kept, next-kept, alarms-kept, tick-kept}
 use Rattle.rt_plain.proofs.StepLemmas.{KeptAt, ticks-kept}
-use Rattle.rt_plain.proofs.ActionLemmas.{AreLevelled, Leaves, IsQuiet, works-append, leaves-same, leaves-parts, leaves-then, leaves-from, leaves-after, leaves-line, row-leaves, wake-leaves, retry_wake-leaves, each-leaves, for-leaves, sem_release-leaves}
+use Rattle.rt_plain.proofs.ActionLemmas.{AreLevelled, Leaves, IsQuiet, works-append, leaves-same, leaves-parts, leaves-then, leaves-from, leaves-line, row-leaves, wake-leaves, retry_wake-leaves, each-leaves, for-leaves, sem_release-leaves}
 use Rattle.rt_plain.proofs.EventLemmas.{none-there, quiet-works, settled-leaves, action-leaves, statement-leaves}
 use Rattle.rt_plain.proofs.TestLemmas.{not-false}
 

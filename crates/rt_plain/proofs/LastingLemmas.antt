@@ -1,6 +1,6 @@
 -- What lasts through whole runs: works that the journal tells, arrivals that are ahead, priorities below the levels and bindings below the cores.
-use Rattle.std.proofs.Common.{◌≡◌, ◌+◌, ◌<◌, ◌≤◌, ◌∷◌, [], ◌++◌, ℕ, zero, suc, min, List, Option, Some, None, Bool, true, false, length, refl, sym, ap, ◌∙◌, subst, arith, map, flat_map, codes, slice_index, slice_index_or, if◌then◌else◌, All, IfSome}
-use Rattle.std.specs.List.{AllByRecursion, fold, range_with_len}
+use Rattle.std.proofs.Common.{◌≡◌, ◌<◌, ◌≤◌, ◌∷◌, [], ◌++◌, ℕ, min, List, Option, Some, None, Bool, true, false, length, refl, sym, ap, ◌∙◌, subst, arith, map, flat_map, codes, All, IfSome}
+use Rattle.std.specs.List.{AllByRecursion, fold}
 use Rattle.std.proofs.lemmas.List.Elements.{recursion_from_All, All-from_recursion}
 use Rattle.std.proofs.lemmas.List.FromFn.{get_or-map-range_with_len}
 use Rattle.rt_plain.specs.declared.board.Arrival.{Arrival}
@@ -8,7 +8,7 @@ use Rattle.rt_plain.specs.declared.board.ThreadDef.{ThreadDef}
 use Rattle.rt_plain.specs.declared.board.TimerDef.{TimerDef}
 use Rattle.rt_plain.specs.declared.entry.Entry.{Entry}
 use Rattle.rt_plain.specs.PlainBoard.{PlainBoard}
-use Rattle.rt_plain.specs.State.{State, Thread, Arriving, no_thread, thread_at}
+use Rattle.rt_plain.specs.State.{State, Arriving, no_thread, thread_at}
 use Rattle.rt_plain.specs.Effects.{no_effect}
 use Rattle.rt_plain.specs.Priority.{least, graph_of, own_urgency, ceilings_of, reach, urgency_of, cur}
 use Rattle.rt_plain.specs.Opening.{new_script_thread, own_threads, new_threads, arrival_moment, new_arriving, unstarted_state, with_auto_timer, open_state}
@@ -16,10 +16,9 @@ use Rattle.rt_plain.specs.Runs.{IsRun}
 use Rattle.rt_plain.specs.WorkLog.{works_from, works_of}
 use Rattle.rt_plain.specs.Sound.{IsLevelled, IsProper}
 use Rattle.rt_plain.proofs.TallyLemmas.{all-append, all-map}
-use Rattle.rt_plain.proofs.TickLemmas.{still}
 use Rattle.rt_plain.proofs.StepLemmas.{KeptAt}
 use Rattle.rt_plain.proofs.OpenLemmas.{all-in, opened-kept}
-use Rattle.rt_plain.proofs.SoundLemmas.{made-kept, reached-kept}
+use Rattle.rt_plain.proofs.SoundLemmas.{made-kept}
 use Rattle.rt_plain.proofs.ActionLemmas.{IsLevelledThread, AreLevelled, Leaves, leaves-same, leaves-parts, leaves-from}
 use Rattle.rt_plain.proofs.FollowLemmas.{AreAhead, Follows, FollowsDid, quiet-follows, follows-then, event-follows}
 use Rattle.rt_plain.proofs.TestLemmas.{some-is}

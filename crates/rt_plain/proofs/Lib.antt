@@ -34,6 +34,7 @@ pub mod AgreeLemmas
 pub mod GoodLemmas
 pub mod LineLemmas
 pub mod BoardLemmas
+pub mod ClockLemmas
 pub mod SkipLemmas
 pub mod CostLemmas
 pub mod CallCosts

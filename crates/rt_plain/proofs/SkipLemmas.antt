@@ -1,17 +1,16 @@
--- While a sleep lasts, each tick but its last one changes the tick alone.
+-- While a sleep lasts, each tick but its last one changes the moment alone.
 use Rattle.std.proofs.Common.{◌≡◌, ◌≢◌, ◌+◌, ◌*◌, ◌≤◌, ◌<◌, ◌∷◌, [], ◌++◌, ℕ, zero, suc, List, Option, Some, None, Bool, true, false, not, ◌||◌, is_some, cond, length, eqb, refl, sym, ap, ◌∙◌, subst, arith, eqb-true, ne_eqb, filter, map, add-zero}
 use Rattle.std.specs.List.{AllByRecursion, fold, list_any}
 use Rattle.std.proofs.lemmas.Bool.{eqb-false}
-use Rattle.std.proofs.Math.Nat.{div-mul-le_self, div-le_of_le-mul, mul_comm}
 use Rattle.rt_plain.specs.PlainBoard.{PlainBoard}
 use Rattle.rt_plain.specs.State.{State, Device, Arriving, Alarm, ArmedRow, is_among}
 use Rattle.rt_plain.specs.Effects.{Effect, no_effect, each_effect, and_then}
 use Rattle.rt_plain.specs.DeviceCalls.{is_sending, is_busy, registered_devices, sent, arrival_effect}
 use Rattle.rt_plain.specs.Due.{due, by_number, due_rows_effect}
 use Rattle.rt_plain.specs.Ticks.{with_slice_used, next_tick_state, alarms_effect, deliveries, transmissions, with_until_halt, tick_effect}
-use Rattle.rt_plain.specs.LpClock.{back}
 use Rattle.rt_plain.specs.Sleeps.{first_from, must_end, moments_of, wanted_length, sleep_length, ticks, is_empty}
 use Rattle.rt_plain.specs.Steps.{is_all_idle}
+use Rattle.rt_plain.proofs.ClockLemmas.{back-early}
 use Rattle.rt_plain.proofs.OpenLemmas.{all-reverse}
 use Rattle.rt_plain.proofs.TestLemmas.{and-right, not-false, or-left, or-right}
 
@@ -63,7 +62,7 @@ none-sending (device ∷ devices) none = (or-left (is_sending device) _ none, no
 chain-none : (a : Effect) (d t : State → Effect) (u : State → State) (s : State) → a ≡ no_effect s → d s ≡ no_effect s → t s ≡ no_effect s → u s ≡ s → and_then (and_then (and_then a d) t) (λ r. no_effect (u r)) ≡ no_effect s
 chain-none a d t u s one two three four = rw (one, two, three, four) refl
 
--- nothing is to happen at this tick
+-- nothing is to happen at this moment
 record IsFreeTick (b : PlainBoard) (s : State) : Type 0 where
   undue : is_among (map (λ (row : ArmedRow Alarm). row.due) s.armed) s.moment ≡ false
   nothing : is_among (map (λ (a : Arriving). a.moment) s.arrivals) s.moment ≡ false
@@ -125,11 +124,7 @@ skip b (suc n) s idle silent free =
     let total : s.moment + 1 + n ≡ s.moment + suc n = omega arith in
     ap (ticks_from b n) (free-tick b n s idle silent free) ∙ skip b n later idle silent (free-later b n s free) ∙ ap (λ (t : ℕ). no_effect (record s { moment = t })) total
 
--- the last whole count isn't after the moment
-pub back-early : (h q moment : ℕ) → back h q moment ≤ moment
-back-early h q moment = div-le_of_le-mul h (omega (arith, div-mul-le_self (moment * h) q, mul_comm moment h))
-
--- so a sleep is no longer than wanted
+-- a sleep is no longer than wanted
 length-wanted : (b : PlainBoard) (s : State) → sleep_length b s ≤ wanted_length b s
 length-wanted b s = omega (arith, back-early b.lp_h b.lp_q (s.moment + wanted_length b s))
 
