@@ -59,7 +59,15 @@ fn a_board_has_at_most_256_threads(rt: HostRuntime) -> Result<(), Fail> {
     assert!(rt; is_most(rt.alloc(), b"board 1\n", 256, b"thread t", rest)?);
     assert!(rt; is_most(rt.alloc(), b"board 1\nshell 20\n", 255, b"thread t", rest)?);
     assert!(rt; is_most(rt.alloc(), b"board 1\nsoft 4\n", 255, b"thread t", rest)?);
-    assert!(rt; is_most(rt.alloc(), b"board 1\nshell 20\nsoft 4\n", 254, b"thread t", rest)?);
+    assert!(rt;
+        is_most(
+            rt.alloc(),
+            b"board 1\nshell 20\nsoft 4\n",
+            254,
+            b"thread t",
+            rest
+        )?
+    );
     Ok(())
 }
 
