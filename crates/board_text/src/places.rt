@@ -138,7 +138,8 @@ fn has_arrival(draft: &Draft, a: &Arrival) -> bool
 {
     let moment = arrival_moment(draft, a);
     let arrivals = draft.arrivals.as_slice();
-    arrivals.iter().any(|o| arrival_moment(draft, o) == moment && o.device.bytes() == a.device.bytes())
+    arrivals.iter().any(|o| arrival_moment(draft, o) == moment
+        && o.device.bytes() == a.device.bytes())
 }
 
 fn is_console(name: &Name) -> bool

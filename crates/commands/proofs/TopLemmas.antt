@@ -79,6 +79,8 @@ has-text (Command.Replay file trace) bytes text is = absurd is
 has-text (Command.Sweep from count file) bytes text is = absurd is
 has-text (Command.Gen seed) bytes text is = absurd is
 has-text (Command.Soak seed) bytes text is = absurd is
+has-text (Command.Cycle alarm times file) bytes text is = absurd is
+has-text (Command.Usage file) bytes text is = absurd is
 
 found : (asked : Option Command) (held : Option Names) (old new : Option (List ℕ)) (P : Command → List ℕ → Type 0) (e : Ending) → IsCaused asked held old new e → AsksFor asked held P
     → (command : Command) × (bytes : List ℕ) × P command bytes × Found e command bytes
@@ -126,6 +128,8 @@ never (Command.Replay file trace) run show = show
 never (Command.Sweep from count file) run show = show
 never (Command.Gen seed) run show = show
 never (Command.Soak seed) run show = show
+never (Command.Cycle alarm times file) run show = show
+never (Command.Usage file) run show = show
 
 -- a file that has a text has a board
 board-of : (command : Command) (bytes : List ℕ) → HasText command bytes → (b : PlainBoard) × IsBoardFile bytes b

@@ -181,12 +181,7 @@ fn put_change(out: &mut List<u8>, name: &Name, before: Prio, after: Prio) -> Res
 }
 
 // The words of a line on what came of a timer's call.
-fn put_acted(
-    out: &mut List<u8>,
-    word: &[u8],
-    name: &Name,
-    fired: Fired,
-) -> Result<(), AllocError>
+fn put_acted(out: &mut List<u8>, word: &[u8], name: &Name, fired: Fired) -> Result<(), AllocError>
     ensures { OnOk result (out.new ≡ out.old ++ words (word.now ∷ name.now ∷ fired_text fired ∷ [])) }
 {
     put_named(out, word, name)?;

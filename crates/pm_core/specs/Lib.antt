@@ -1,3 +1,3 @@
 pub mod Votes
-pub mod LpClock
+pub mod Clock
 pub mod Moments

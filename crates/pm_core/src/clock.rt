@@ -1,5 +1,5 @@
 ghost use Rattle.std.specs.Prelude.{◌≡◌, ◌+◌, ◌*◌, ◌<◌, ◌≤◌};
-ghost use Rattle.pm_core.specs.LpClock.{count_at, remainder_at, counts_ahead, ticks_ahead};
+ghost use Rattle.rt_plain.specs.LpClock.{count_at, remainder_at, counts_ahead, ticks_ahead};
 
 use std::marker::Model;
 
@@ -15,11 +15,11 @@ pub struct LpClock {
 }
 
 impl Model for LpClock {
-    ghost use Rattle.pm_core.specs.LpClock.{Clock};
+    ghost use Rattle.pm_core.specs.Clock.{Clock};
 
     ghost Value = { Clock };
 
-    ghost use Rattle.pm_core.specs.LpClock.{IsRunning, moment_of};
+    ghost use Rattle.pm_core.specs.Clock.{IsRunning, moment_of};
 
     ghost view = { λ c. record { h = c.h; q = c.q; moment = moment_of c.h c.q c.count c.rem } };
 

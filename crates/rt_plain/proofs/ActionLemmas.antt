@@ -1,5 +1,5 @@
 -- What each call leaves: the works that its lines tell, what is to arrive, and priorities and bindings that the board has.
-use Rattle.std.proofs.Common.{◌≡◌, ◌≢◌, ◌<◌, ◌+◌, ◌-◌, ◌∷◌, [], ◌++◌, ℕ, zero, suc, List, Option, Some, None, Bool, true, false, not, is_some, length, eqb, nat_lt, nat_le, bytes_eq, refl, sym, ap, ◌∙◌, subst, ltb-true, slice_index_or, slice_set, filter, if◌then◌else◌, bit_and, bit_or}
+use Rattle.std.proofs.Common.{◌≡◌, ◌<◌, ◌+◌, ◌-◌, ◌∷◌, [], ◌++◌, ℕ, zero, suc, List, Option, Some, None, Bool, true, false, is_some, length, eqb, nat_lt, nat_le, refl, sym, ap, ◌∙◌, subst, ltb-true, slice_index_or, slice_set, if◌then◌else◌, bit_and, bit_or}
 use Rattle.std.specs.List.{AllByRecursion}
 use Rattle.std.specs.Option.{option_and_then}
 use Rattle.rt_base.specs.declared.codes.Code.{Code}
@@ -8,24 +8,24 @@ use Rattle.rt_base.specs.declared.codes.WaitOrder.{WaitOrder}
 use Rattle.rt_plain.specs.declared.line.Line.{Line}
 use Rattle.rt_plain.specs.declared.stmt.Call.{Call}
 use Rattle.rt_plain.specs.PlainBoard.{PlainBoard}
-use Rattle.rt_plain.specs.State.{State, Stage, Active, Waiting, Suspended, Closed, Initial, Awaited, InCall, Thread, Timer, Holding, Mailbox, MsgQueue, Pool, Device, Nest, Sem, OfThread, OfTimer, no_thread, thread_at, with_thread, find_thread, is_initial}
-use Rattle.rt_plain.specs.Effects.{Effect, no_effect, line_effect, and_then, each_effect, effect_for, with_alarm, without_alarm, waiting_state, active_state, wake_effect, retry_wake_effect, retry_of, due_of}
+use Rattle.rt_plain.specs.State.{State, Stage, Active, Waiting, Suspended, Closed, Awaited, InCall, Thread, Holding, Mailbox, MsgQueue, Pool, Device, Nest, Sem, OfThread, OfTimer, no_thread, thread_at, with_thread, find_thread, is_initial}
+use Rattle.rt_plain.specs.Effects.{Effect, no_effect, line_effect, each_effect, effect_for, without_alarm, waiting_state, active_state, wake_effect, retry_wake_effect, retry_of, due_of}
 use Rattle.rt_plain.specs.Waiting.{waiters, first_waiter, takes_sem, takes_mutex, receives_event, sends_mail, receives_mail, sends_message, receives_message, takes_block}
 use Rattle.rt_plain.specs.Owners.{without_owner, with_owner, pass_effect, give_back_effect, mutexes_of, withdrawn_state, close_effect}
-use Rattle.rt_plain.specs.Outcome.{By, ByThread, ByTimer, Attempt, First, Again, Outcome, refusal, success, silent_success, with_value, with_text, may_not_wait, wait_outcome, first_wait_outcome, is_past, repeated_wait_outcome, wait_or_refusal, missing_outcome, found_outcome, thread_outcome}
+use Rattle.rt_plain.specs.Outcome.{By, ByThread, ByTimer, Attempt, First, Again, Outcome, refusal, success, silent_success, with_value, with_text, may_not_wait, wait_outcome, first_wait_outcome, is_past, wait_or_refusal, missing_outcome, found_outcome}
 use Rattle.rt_plain.specs.ThreadCalls.{delay, yield, startup, suspend, suspended_state, may_suspend, resume, resume_outcome, kill, set_prio, lock, lock_outcome, unlock, unlock_outcome, with_locks, sched_lock, sched_unlock}
-use Rattle.rt_plain.specs.SemCalls.{find_sem, sem_create, sem_take, sem_release_outcome, sem_release}
-use Rattle.rt_plain.specs.EventCalls.{Want, Wanting, find_event, with_event, event_create, event_recv, is_satisfied, flags_wake_effect, wanting_threads, satisfied_waiters, flags_left, event_send}
-use Rattle.rt_plain.specs.MutexCalls.{find_mutex, with_mutex, mutex_create, mutex_take_outcome, mutex_take, mutex_release_outcome, mutex_release, mutex_ceiling}
+use Rattle.rt_plain.specs.SemCalls.{find_sem, sem_take, sem_release_outcome, sem_release}
+use Rattle.rt_plain.specs.EventCalls.{Want, Wanting, find_event, with_event, event_recv, is_satisfied, flags_wake_effect, wanting_threads, satisfied_waiters, event_send}
+use Rattle.rt_plain.specs.MutexCalls.{find_mutex, with_mutex, mutex_take_outcome, mutex_take, mutex_release_outcome, mutex_release, mutex_ceiling}
 use Rattle.rt_plain.specs.Priority.{holding_of}
 use Rattle.rt_plain.specs.MailboxCalls.{find_mailbox, with_mailbox, has_mail_room, mail_put_outcome, mb_send, mb_urgent, mb_recv_outcome, mb_recv}
 use Rattle.rt_plain.specs.QueueCalls.{find_queue, with_queue, is_too_long, has_message_room, message_put_outcome, mq_send, mq_urgent, mq_recv_outcome, mq_recv}
 use Rattle.rt_plain.specs.PoolCalls.{find_pool, with_pool, with_block_held, free_block, last_block, place_of, mp_alloc_outcome, mp_alloc, passed_block_outcome, mp_free_outcome, mp_free}
 use Rattle.rt_plain.specs.DeleteCall.{deletion_outcome, delete}
 use Rattle.rt_plain.specs.Works.{has_work, without_work, unwork_effect}
-use Rattle.rt_plain.specs.TimerCalls.{find_timer, with_timer, with_timer_armed, timer_start, timer_stop, timer_set}
+use Rattle.rt_plain.specs.TimerCalls.{find_timer, with_timer_armed, timer_start, timer_stop, timer_set}
 use Rattle.rt_plain.specs.DeviceCalls.{find_device, with_device, is_open, dev_open, may_close, dev_close, dev_read, write_effect, dev_write, dev_ctl}
-use Rattle.rt_plain.specs.PowerCalls.{votes_for, pm_request, pm_release}
+use Rattle.rt_plain.specs.PowerCalls.{votes_for}
 use Rattle.rt_plain.specs.Calls.{outcome_of}
 use Rattle.rt_plain.specs.WorkLog.{works_after, works_from}
 use Rattle.rt_plain.specs.Sound.{is_levelled_call, IsLevelled}

@@ -27,7 +27,7 @@ abbrev pub IsHeldRunning : PlainBoard → State → Type 0
 IsHeldRunning b s = (n : Nest) → s.nest ≡ Some n → (n.core < b.cores) × (r : ℕ) × (running_on s n.core ≡ Some r)
 
 -- a tick is made where the machine hasn't halted and nobody holds the lock over all cores
-tick-made : (b : PlainBoard) (s : State) → s.halt ≡ None → s.nest ≡ None → happens b s Event.Tick ≡ Made (tick_effect b s).state (tick_effect b s).lines
+pub tick-made : (b : PlainBoard) (s : State) → s.halt ≡ None → s.nest ≡ None → happens b s Event.Tick ≡ Made (tick_effect b s).state (tick_effect b s).lines
 unfolding happens
 tick-made b s live free = rw (live, free) refl
 
@@ -132,7 +132,7 @@ stops-now over b s n d is = subst (λ (m : Driven). is_stopped over m.course ≡
 stops-turn : (over : List Entry → Bool) (b : PlainBoard) (s : Schedule) (n : ℕ) (d : Driven) → is_stopped over d.course ≡ false → Stops over b s n (moved b s d) → Stops over b s (suc n) d
 stops-turn over b s n d is stops = subst (λ c. is_stopped over (turns over b s (suc n) c d).course ≡ true) (sym is) stops
 
-moved-is : (b : PlainBoard) (schedule : Schedule) (d : Driven) (did : Did) → happens b d.course.state (event_of b d) ≡ did → moved b schedule d ≡ moved_by b schedule d (event_of b d) did
+pub moved-is : (b : PlainBoard) (schedule : Schedule) (d : Driven) (did : Did) → happens b d.course.state (event_of b d) ≡ did → moved b schedule d ≡ moved_by b schedule d (event_of b d) did
 unfolding moved
 moved-is b schedule d did is = ap (moved_by b schedule d (event_of b d)) is
 

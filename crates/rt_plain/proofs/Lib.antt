@@ -17,7 +17,10 @@ pub mod TickLemmas
 pub mod StepLemmas
 pub mod OpenLemmas
 pub mod ActionLemmas
+pub mod EventLemmas
+pub mod FollowLemmas
 pub mod SoundLemmas
+pub mod LastingLemmas
 pub mod NumberLemmas
 pub mod SplitLemmas
 pub mod QuoteLemmas
@@ -31,6 +34,7 @@ pub mod AgreeLemmas
 pub mod GoodLemmas
 pub mod LineLemmas
 pub mod BoardLemmas
+pub mod ClockLemmas
 pub mod SkipLemmas
 pub mod CostLemmas
 pub mod CallCosts
@@ -40,6 +44,11 @@ pub mod TickCosts
 pub mod CanonLemmas
 pub mod ValidLemmas
 pub mod RunnableLemmas
+pub mod LevelLemmas
 pub mod RoomLemmas
 pub mod FireLemmas
 pub mod RowLemmas
+pub mod AwakeLemmas
+pub mod DeedLemmas
+pub mod AlikeLemmas
+pub mod TicklessLemmas

@@ -163,7 +163,7 @@ none-due : (timers : List Timer) (armed : List (ArmedRow Alarm)) → AllByRecurs
 none-due timers [] all = refl
 none-due timers (row ∷ rows) all = omega (arith, none-due timers rows all.1, ap one_if (ne_eqb row.due 0 (λ e. absurd (omega (arith, e, all.0.0)))))
 
-all-in : {A : Type 0} (P : A → Type 0) (xs : List A) (i : ℕ) (d : A) → i < length xs → AllByRecursion P xs → P (slice_index_or xs i d)
+pub all-in : {A : Type 0} (P : A → Type 0) (xs : List A) (i : ℕ) (d : A) → i < length xs → AllByRecursion P xs → P (slice_index_or xs i d)
 all-in P [] i d lt all = absurd (omega (arith, lt))
 all-in P (x ∷ xs) zero d lt all = all.0
 all-in P (x ∷ xs) (suc i) d lt all = all-in P xs i d (omega (arith, lt)) all.1

@@ -1,17 +1,16 @@
--- While a sleep lasts, each tick but its last one changes the tick alone.
+-- While a sleep lasts, each tick but its last one changes the moment alone.
 use Rattle.std.proofs.Common.{◌≡◌, ◌≢◌, ◌+◌, ◌*◌, ◌≤◌, ◌<◌, ◌∷◌, [], ◌++◌, ℕ, zero, suc, List, Option, Some, None, Bool, true, false, not, ◌||◌, is_some, cond, length, eqb, refl, sym, ap, ◌∙◌, subst, arith, eqb-true, ne_eqb, filter, map, add-zero}
 use Rattle.std.specs.List.{AllByRecursion, fold, list_any}
 use Rattle.std.proofs.lemmas.Bool.{eqb-false}
-use Rattle.std.proofs.Math.Nat.{div-mul-le_self, div-le_of_le-mul, mul_comm}
 use Rattle.rt_plain.specs.PlainBoard.{PlainBoard}
 use Rattle.rt_plain.specs.State.{State, Device, Arriving, Alarm, ArmedRow, is_among}
 use Rattle.rt_plain.specs.Effects.{Effect, no_effect, each_effect, and_then}
 use Rattle.rt_plain.specs.DeviceCalls.{is_sending, is_busy, registered_devices, sent, arrival_effect}
 use Rattle.rt_plain.specs.Due.{due, by_number, due_rows_effect}
 use Rattle.rt_plain.specs.Ticks.{with_slice_used, next_tick_state, alarms_effect, deliveries, transmissions, with_until_halt, tick_effect}
-use Rattle.rt_plain.specs.LpClock.{back}
 use Rattle.rt_plain.specs.Sleeps.{first_from, must_end, moments_of, wanted_length, sleep_length, ticks, is_empty}
 use Rattle.rt_plain.specs.Steps.{is_all_idle}
+use Rattle.rt_plain.proofs.ClockLemmas.{back-early}
 use Rattle.rt_plain.proofs.OpenLemmas.{all-reverse}
 use Rattle.rt_plain.proofs.TestLemmas.{and-right, not-false, or-left, or-right}
 
@@ -63,7 +62,7 @@ none-sending (device ∷ devices) none = (or-left (is_sending device) _ none, no
 chain-none : (a : Effect) (d t : State → Effect) (u : State → State) (s : State) → a ≡ no_effect s → d s ≡ no_effect s → t s ≡ no_effect s → u s ≡ s → and_then (and_then (and_then a d) t) (λ r. no_effect (u r)) ≡ no_effect s
 chain-none a d t u s one two three four = rw (one, two, three, four) refl
 
--- nothing is to happen at this tick
+-- nothing is to happen at this moment
 record IsFreeTick (b : PlainBoard) (s : State) : Type 0 where
   undue : is_among (map (λ (row : ArmedRow Alarm). row.due) s.armed) s.moment ≡ false
   nothing : is_among (map (λ (a : Arriving). a.moment) s.arrivals) s.moment ≡ false
@@ -93,7 +92,7 @@ tick-none b s idle free =
     (subst (λ (u : State). alarms_effect b u ≡ no_effect later) (sym (slices-stay s.running later idle)) (alarms-none b later free)) (deliveries-none b later free) (transmissions-none b later free) (until-none b later free)
 
 -- the moments of a sleep that are still ahead
-abbrev IsFreeFor : PlainBoard → State → ℕ → Type 0
+abbrev pub IsFreeFor : PlainBoard → State → ℕ → Type 0
 IsFreeFor b s n = (k : ℕ) → 1 ≤ k → k ≤ n → is_among (moments_of b s) (s.moment + k) ≡ false
 
 free-next : (b : PlainBoard) (s : State) → is_busy s ≡ false → is_among (moments_of b s) (s.moment + 1) ≡ false → IsFreeTick b (record s { moment = s.moment + 1 })
@@ -109,25 +108,33 @@ free-next b s silent free =
 abbrev ticks_from : PlainBoard → ℕ → Effect → Effect
 ticks_from b n e = let f = ticks b n e.state in record { state = f.state; lines = e.lines ++ f.lines }
 
+-- a tick before the last one of a sleep, and what is left of the sleep after it
+pub free-tick : (b : PlainBoard) (n : ℕ) (s : State) → list_any is_some s.running ≡ false → is_busy s ≡ false → IsFreeFor b s (suc n) → tick_effect b s ≡ no_effect (record s { moment = s.moment + 1 })
+free-tick b n s idle silent free = tick-none b s idle (free-next b s silent (free 1 (omega arith) (omega arith)))
+
+pub free-later : (b : PlainBoard) (n : ℕ) (s : State) → IsFreeFor b s (suc n) → IsFreeFor b (record s { moment = s.moment + 1 }) n
+free-later b n s free k low high = subst (λ m. is_among (moments_of b s) m ≡ false) moved (free (k + 1) (omega arith) (omega (arith, high))) where
+  moved : s.moment + (k + 1) ≡ s.moment + 1 + k
+  moved = omega arith
+
 skip : (b : PlainBoard) (n : ℕ) (s : State) → list_any is_some s.running ≡ false → is_busy s ≡ false → IsFreeFor b s n → ticks b n s ≡ no_effect (record s { moment = s.moment + n })
 skip b zero s idle silent free = rw (add-zero s.moment) refl
 skip b (suc n) s idle silent free =
     let later : State = record s { moment = s.moment + 1 } in
-    let one : tick_effect b s ≡ no_effect later = tick-none b s idle (free-next b s silent (free 1 (omega arith) (omega arith))) in
-    let moved : (k : ℕ) → s.moment + 1 + k ≡ s.moment + (k + 1) = λ k. omega arith in
-    let rest : ticks b n later ≡ no_effect (record s { moment = s.moment + 1 + n }) = skip b n later idle silent (λ k low high. subst (λ m. is_among (moments_of b s) m ≡ false) (sym (moved k)) (free (k + 1) (omega arith) (omega (arith, high)))) in
     let total : s.moment + 1 + n ≡ s.moment + suc n = omega arith in
-    ap (ticks_from b n) one ∙ rest ∙ ap (λ (t : ℕ). no_effect (record s { moment = t })) total
+    ap (ticks_from b n) (free-tick b n s idle silent free) ∙ skip b n later idle silent (free-later b n s free) ∙ ap (λ (t : ℕ). no_effect (record s { moment = t })) total
 
--- the last whole count isn't after the moment
-pub back-early : (h q moment : ℕ) → back h q moment ≤ moment
-back-early h q moment = div-le_of_le-mul h (omega (arith, div-mul-le_self (moment * h) q, mul_comm moment h))
-
--- so a sleep is no longer than wanted
+-- a sleep is no longer than wanted
 length-wanted : (b : PlainBoard) (s : State) → sleep_length b s ≤ wanted_length b s
 length-wanted b s = omega (arith, back-early b.lp_h b.lp_q (s.moment + wanted_length b s))
 
 -- within a sleep's length nothing is to happen
+pub free-sleep : (b : PlainBoard) (n : ℕ) (s : State) → n < sleep_length b s → IsFreeFor b s n
+free-sleep b n s short k low high = or-left (is_among (moments_of b s) (s.moment + k)) (eqb k b.lpmax) (before-first (must_end (moments_of b s) b.lpmax s.moment) b.lpmax 1 k low (omega (arith, high, short, length-wanted b s)))
+
+-- nobody runs
+pub none-running : (s : State) → is_all_idle s ≡ true → list_any is_some s.running ≡ false
+none-running s idle = not-false (list_any is_some s.running) (and-right (is_empty s.ready) _ idle)
+
 pub skipped-ticks : (b : PlainBoard) (n : ℕ) (s : State) → is_all_idle s ≡ true → is_busy s ≡ false → n < sleep_length b s → ticks b n s ≡ no_effect (record s { moment = s.moment + n })
-skipped-ticks b n s idle silent short = skip b n s (not-false (list_any is_some s.running) (and-right (is_empty s.ready) _ idle)) silent
-    (λ k low high. or-left (is_among (moments_of b s) (s.moment + k)) (eqb k b.lpmax) (before-first (must_end (moments_of b s) b.lpmax s.moment) b.lpmax 1 k low (omega (arith, high, short, length-wanted b s))))
+skipped-ticks b n s idle silent short = skip b n s (none-running s idle) silent (free-sleep b n s short)

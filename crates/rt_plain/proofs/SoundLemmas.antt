@@ -21,7 +21,7 @@ use Rattle.rt_plain.specs.declared.board.Schedule.{Schedule}
 use Rattle.rt_plain.specs.Schedules.{IsDriveable, scheduled_course, driven, rounds_begun}
 use Rattle.rt_plain.proofs.FuelLemmas.{IsHeldRunning, IsLimited, scheduled-stops, rounds-stop}
 
-made-kept : (b : PlainBoard) (s new : State) (e : Entry) → IsProper b → KeptAt b s → IsMade b s e new → KeptAt b new
+pub made-kept : (b : PlainBoard) (s new : State) (e : Entry) → IsProper b → KeptAt b s → IsMade b s e new → KeptAt b new
 made-kept b s new e timed kept made = subst (KeptDid b) made.1 (event-kept b kept.0 s timed kept.1 e.event made.0)
 
 -- what holds of every reached state

@@ -192,26 +192,26 @@ worked-kept : (f : Frame) (s : State) (name : List ℕ) (o : Option Timer) → f
 worked-kept f s name None is idle kept = kept
 worked-kept f s name (Some timer) is idle kept = action-kept f s (Line.Work timer.name) timer (found-timer f s name timer is kept) (found-owner s name timer is) (subst (λ (n : List ℕ). tally (is_work_of (OfTimer n)) s.works ≡ 0) (sym (found-name s name timer is)) idle) kept
 
-softly-kept : (f : Frame) (s : State) (t core : ℕ) (works : List (List ℕ)) → s.works ≡ works → running_on s core ≡ Some t → is_soft_thread f.board t ≡ true → Kept f s → Kept f (soft_turn_effect f.board t works s).state
-softly-kept f s t core [] is runs soft kept = let free : State = with_thread s t (record (thread_at s t) { retry = None }) in waiting-kept f free t core AtWorks None runs (scriptless-off f free t (or-second (is_shell f.board t) _ soft) (unretried-kept f s t kept)) refl (λ d is. absurd cc) (unretried-kept f s t kept)
-softly-kept f s t core (name ∷ names) is runs soft kept = worked-kept f left name (find_timer left name) refl idle (works-kept f free names fewer known (unretried-kept f s t kept)) where
-  free : State
-  free = with_thread s t (record (thread_at s t) { retry = None })
+standings-before : (f : Frame) (s : State) (name : List ℕ) (names : List (List ℕ)) → s.works ≡ name ∷ names → (alarm : Alarm) → Kept f s → standings alarm (name ∷ names) s.armed ≤ 1
+standings-before f s name names is alarm kept = subst (λ (works : List (List ℕ)). standings alarm works s.armed ≤ 1) is (kept.single alarm)
 
-  left : State
-  left = record free { works = names }
-
-  before : (alarm : Alarm) → standings alarm (name ∷ names) s.armed ≤ 1
-  before alarm = subst (λ (works : List (List ℕ)). standings alarm works s.armed ≤ 1) is (kept.single alarm)
-
+-- the first of the works is taken out, and its timer is no work any more
+pub left-kept : (f : Frame) (s : State) (t : ℕ) (name : List ℕ) (names : List (List ℕ)) → s.works ≡ name ∷ names → Kept f s → Kept f (record (with_thread s t (record (thread_at s t) { retry = None })) { works = names })
+left-kept f s t name names is kept = works-kept f (with_thread s t (record (thread_at s t) { retry = None })) names fewer known (unretried-kept f s t kept) where
   fewer : (alarm : Alarm) → standings alarm names s.armed ≤ 1
-  fewer alarm = omega (arith, before alarm)
+  fewer alarm = omega (arith, standings-before f s name names is alarm kept)
 
   known : AllByRecursion (IsKnownWork s.timers) names
   known = (subst (AllByRecursion (IsKnownWork s.timers)) is kept.works_known).1
 
+softly-kept : (f : Frame) (s : State) (t core : ℕ) (works : List (List ℕ)) → s.works ≡ works → running_on s core ≡ Some t → is_soft_thread f.board t ≡ true → Kept f s → Kept f (soft_turn_effect f.board t works s).state
+softly-kept f s t core [] is runs soft kept = let free : State = with_thread s t (record (thread_at s t) { retry = None }) in waiting-kept f free t core AtWorks None runs (scriptless-off f free t (or-second (is_shell f.board t) _ soft) (unretried-kept f s t kept)) refl (λ d is. absurd cc) (unretried-kept f s t kept)
+softly-kept f s t core (name ∷ names) is runs soft kept = worked-kept f left name (find_timer left name) refl idle (left-kept f s t name names is kept) where
+  left : State
+  left = record (with_thread s t (record (thread_at s t) { retry = None })) { works = names }
+
   idle : tally (is_work_of (OfTimer name)) names ≡ 0
-  idle = omega (arith, before (OfTimer name), ap one_if ((bytes_eq-Decides name name).1 refl))
+  idle = omega (arith, standings-before f s name names is (OfTimer name) kept, ap one_if ((bytes_eq-Decides name name).1 refl))
 
 -- what follows from an action
 pub settled-kept : (f : Frame) (before : State) (e : Effect) → Kept f e.state → Kept f (settled_effect f.board before e).state

@@ -20,7 +20,7 @@ use Rattle.rt_plain.proofs.StatementLemmas.{statement-kept}
 use Rattle.rt_plain.proofs.TickLemmas.{still, tick-kept}
 use Rattle.rt_plain.proofs.TestLemmas.{and-left, and-right, not-false, some-is}
 
--- at some tick
+-- at some moment
 abbrev pub KeptAt : PlainBoard → State → Type 0
 KeptAt b s = (now : ℕ) × Kept (still b now) s
 

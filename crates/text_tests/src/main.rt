@@ -30,11 +30,7 @@ fn has_form(alloc: Global, line: &[u8]) -> Result<bool, AllocError> {
 
 // Writes the line again, behind `+` where it has a form, and behind `-` where it has none.
 fn tell_line<W: Write>(alloc: Global, line: &[u8], to: &mut W) -> io::Result<()> {
-    let sign: &[u8] = if has_form(alloc, line)? {
-        b"+ "
-    } else {
-        b"- "
-    };
+    let sign: &[u8] = if has_form(alloc, line)? { b"+ " } else { b"- " };
     to.write_all(sign)?;
     to.write_all(line)?;
     to.write_all(b"\n")

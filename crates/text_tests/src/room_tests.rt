@@ -7,39 +7,43 @@ use std::test::Fail;
 fn board_of(
     alloc: Global,
     settings: &[u8],
-    count: u32,
+    count: u16,
     before: &[u8],
     behind: &[u8],
 ) -> Result<Vec<u8>, AllocError> {
     let mut board = Vec::from_slice(alloc, settings)?;
-    for n in 1000..1000 + count {
+    for n in 0..count {
         board.extend_from_slice(before)?;
-        for power in &[1000, 100, 10, 1] {
-            board.push(b'0' + (n / *power % 10) as u8)?;
-        }
+        board.push(b'1' + (n / 1000 % 5) as u8)?;
+        board.push(b'0' + (n / 100 % 10) as u8)?;
+        board.push(b'0' + (n / 10 % 10) as u8)?;
+        board.push(b'0' + (n % 10) as u8)?;
         board.extend_from_slice(behind)?;
     }
     Ok(board)
 }
 
 // Whether the line with this number is refused since there is no room for it.
-fn is_full_at(alloc: Global, board: &[u8], no: u32) -> bool {
-    let why = Why::Full;
-    parse(alloc, board).err() == Some(BoardFault::Line { no, why })
+fn is_full_at(alloc: Global, board: &[u8], number: usize) -> bool {
+    match parse(alloc, board) {
+        Err(BoardFault::Line { no, why }) => why == Why::Full && no as usize == number,
+        _ => false,
+    }
 }
 
 // Whether a board may have so many of these lines behind the settings, and no more.
 fn is_most(
     alloc: Global,
     settings: &[u8],
-    most: u32,
+    most: u16,
     before: &[u8],
     behind: &[u8],
 ) -> Result<bool, AllocError> {
-    let first = settings.split(|b| *b == b'\n').count() as u32;
+    let first = settings.split(|b| *b == b'\n').count();
     let full = board_of(alloc, settings, most, before, behind)?;
-    let over = board_of(alloc, settings, most + 1, before, behind)?;
-    Ok(parse(alloc, &full).is_ok() && is_full_at(alloc, &over, first + most))
+    let over = board_of(alloc, settings, most.saturating_add(1), before, behind)?;
+    let last = first.saturating_add(usize::from(most));
+    Ok(parse(alloc, &full).is_ok() && is_full_at(alloc, &over, last))
 }
 
 #[test]
@@ -55,7 +59,15 @@ fn a_board_has_at_most_256_threads(rt: HostRuntime) -> Result<(), Fail> {
     assert!(rt; is_most(rt.alloc(), b"board 1\n", 256, b"thread t", rest)?);
     assert!(rt; is_most(rt.alloc(), b"board 1\nshell 20\n", 255, b"thread t", rest)?);
     assert!(rt; is_most(rt.alloc(), b"board 1\nsoft 4\n", 255, b"thread t", rest)?);
-    assert!(rt; is_most(rt.alloc(), b"board 1\nshell 20\nsoft 4\n", 254, b"thread t", rest)?);
+    assert!(rt;
+        is_most(
+            rt.alloc(),
+            b"board 1\nshell 20\nsoft 4\n",
+            254,
+            b"thread t",
+            rest
+        )?
+    );
     Ok(())
 }
 

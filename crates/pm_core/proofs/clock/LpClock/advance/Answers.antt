@@ -1,5 +1,5 @@
 use Rattle.std.proofs.Common.{◌+◌, ◌<◌, ap, ◌∙◌, sym, subst}
-use Rattle.pm_core.specs.LpClock.{Clock}
+use Rattle.pm_core.specs.Clock.{Clock}
 use Rattle.pm_core.proofs.Clocks.{parts-now, runs-on, moment-later}
 use Rattle.pm_core.proofs.clock.LpClock.advance.Goals as goal
 
