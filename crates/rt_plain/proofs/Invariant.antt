@@ -16,7 +16,8 @@ use Rattle.rt_plain.specs.Calls.{is_moved, reordered_state}
 use Rattle.rt_plain.specs.Steps.{with_running, without_mark, preempted_state}
 use Rattle.rt_plain.specs.Runs.{thread_count}
 use Rattle.rt_plain.specs.Sound.{is_active, is_waiting, is_timed_call, is_timed_action, IsBoardTimer}
-use Rattle.rt_plain.proofs.TallyLemmas.{one_if, tally, tally-last, tally-split, tally-filter, tally-without_same, tally-without_other, tally-left_same, tally-left_other, tally-set, tally-at, tally-twice, all-weaker, all-filter, all-passing, all-append, all-at, all-set, same-set, other-set, here-set, past-end, length-set_at, map-at, le_or_lt}
+use Rattle.rt_plain.specs.Tally.{one_if, tally}
+use Rattle.rt_plain.proofs.TallyLemmas.{tally-last, tally-split, tally-filter, tally-without_same, tally-without_other, tally-left_same, tally-left_other, tally-set, tally-at, tally-twice, all-weaker, all-filter, all-passing, all-append, all-at, all-set, same-set, other-set, here-set, past-end, length-set_at, map-at, le_or_lt}
 use Rattle.rt_plain.proofs.TestLemmas.{some-is, clash}
 
 -- what an action is made under: the board, the moment of now, the least moment at which a row may be due, how many rows are due now at most, and the latest moment at which a machine hasn't halted
