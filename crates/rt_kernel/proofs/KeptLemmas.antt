@@ -14,8 +14,10 @@ use Rattle.rt_plain.specs.Due.{due, due_rows_at, by_number, put_by_number, timeo
 use Rattle.rt_plain.specs.Ticks.{next_tick_state, with_slice_used, thread_after_slice}
 use Rattle.rt_plain.specs.Owners.{close_effect}
 use Rattle.rt_plain.specs.Calls.{settled_effect}
-use Rattle.rt_plain.proofs.TallyLemmas.{one_if, tally, tally-length, all-count, all-weaker, tally-filter}
-use Rattle.rt_plain.proofs.Invariant.{Frame, Kept, stage_at, IsRowKept, IsRowBounded, IsFineThread, IsWaited, fine-at, fine-later, bounded-later, thread-kept, is-there, active-open, waiting-open, placed-active, running-active, run-kept, preempt-kept, without_alarm-kept}
+use Rattle.rt_plain.specs.Tally.{one_if, tally}
+use Rattle.rt_plain.proofs.TallyLemmas.{tally-length, all-count, all-weaker, tally-filter}
+use Rattle.rt_plain.specs.Kept.{Frame, Kept, stage_at, IsRowKept, IsRowBounded, IsFineThread, IsWaited}
+use Rattle.rt_plain.proofs.Invariant.{fine-at, fine-later, bounded-later, thread-kept, is-there, active-open, waiting-open, placed-active, running-active, run-kept, preempt-kept, without_alarm-kept}
 use Rattle.rt_plain.proofs.TickLemmas.{IsDueRow, DropsOne, due-rows, less-fits, filter-length, slice-fine, fold-kept}
 use Rattle.rt_plain.proofs.TickCosts.{all-owned, armed-few}
 use Rattle.rt_plain.proofs.StepLemmas.{picked-ready}

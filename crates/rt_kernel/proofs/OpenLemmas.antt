@@ -7,7 +7,7 @@ use Rattle.rt_plain.specs.declared.board.ThreadDef.{ThreadDef}
 use Rattle.rt_plain.specs.PlainBoard.{PlainBoard}
 use Rattle.rt_plain.specs.State.{State, Thread, is_initial}
 use Rattle.rt_plain.specs.Opening.{new_script_thread, open_state}
-use Rattle.rt_plain.proofs.Invariant.{Kept}
+use Rattle.rt_plain.specs.Kept.{Kept}
 use Rattle.rt_plain.proofs.TickLemmas.{still}
 use Rattle.rt_plain.proofs.OpenLemmas.{opened-kept}
 use Rattle.rt_kernel.specs.declared.records.Records.{Records}

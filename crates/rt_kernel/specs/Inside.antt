@@ -2,8 +2,8 @@
 use Rattle.std.specs.Prelude.{◌≡◌, eqb}
 use Rattle.rt_plain.specs.PlainBoard.{PlainBoard}
 use Rattle.rt_plain.specs.State.{State}
-use Rattle.rt_plain.proofs.TallyLemmas.{tally}
-use Rattle.rt_plain.proofs.Invariant.{Frame, Kept}
+use Rattle.rt_plain.specs.Tally.{tally}
+use Rattle.rt_plain.specs.Kept.{Frame, Kept}
 use Rattle.rt_plain.proofs.TickLemmas.{less-fits}
 use Rattle.rt_kernel.specs.declared.kernel.Kernel.TheInside.{Inside}
 use Rattle.rt_kernel.specs.Built.{IsBuilt}

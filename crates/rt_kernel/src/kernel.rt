@@ -13,7 +13,7 @@ ghost use Rattle.rt_plain.specs.Ticks.{next_tick_state};
 ghost use Rattle.rt_plain.specs.Sleeps.{is_empty};
 ghost use Rattle.rt_plain.specs.Sound.{is_waiting, IsProper, IsSized};
 ghost use Rattle.rt_plain.specs.Steps.{is_all_idle, is_preemptible, without_mark};
-ghost use Rattle.rt_plain.proofs.Invariant.{Kept};
+ghost use Rattle.rt_plain.specs.Kept.{Kept};
 ghost use Rattle.rt_kernel.specs.Built.{IsBuilt, is_built};
 ghost use Rattle.rt_kernel.specs.declared.answer.By.TheVariants.{Thread as ByThreadOn};
 ghost use Rattle.rt_kernel.specs.Called.{plain_answer};

@@ -28,8 +28,9 @@ use Rattle.std.proofs.Common.{Bool, List, None, Option, Some, [], ap, arith, bit
 use Rattle.std.specs.List.{AllByRecursion}
 use Rattle.rt_plain.specs.declared.line.Line.{Line}
 use Rattle.rt_plain.specs.Owners.{close_effect, with_owner, give_back_effect, without_owner}
-use Rattle.rt_plain.proofs.Invariant.{stage_at}
-use Rattle.rt_plain.proofs.TallyLemmas.{all-filter, all-append, all-map, same-set, tally}
+use Rattle.rt_plain.specs.Kept.{stage_at}
+use Rattle.rt_plain.specs.Tally.{tally}
+use Rattle.rt_plain.proofs.TallyLemmas.{all-filter, all-append, all-map, same-set}
 use Rattle.rt_plain.proofs.WakeLemmas.{AllApart, wake-others, apart-map, waiters-apart, waiters-wait, first-waits}
 use Rattle.rt_plain.proofs.ObjectLemmas.{apart-filter, value-stages, text-stages, valued-others, lists-apart, mail-lists, message-lists}
 use Rattle.rt_plain.proofs.CostLemmas.{few-same, few-kept, stays-parts, Few, Costs, costs-more, costs-none, costs-from, thread-costs, active-costs, wake-costs, retry_wake-costs, waiting-costs, suspended-costs, each-wakes-cost, for-costs, give_back-costs, close-costs}

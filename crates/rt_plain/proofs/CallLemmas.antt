@@ -6,8 +6,10 @@ use Rattle.rt_plain.specs.State.{State, Stage, Initial, Active, Waiting, Suspend
 use Rattle.rt_plain.specs.Outcome.{By, ByThread, ByTimer, Attempt, First, Again, Outcome, refusal, with_value, with_text, may_not_wait, wait_outcome, first_wait_outcome, is_past, repeated_wait_outcome, wait_or_refusal, missing_outcome, found_outcome}
 use Rattle.rt_plain.specs.ThreadCalls.{delay, yield, startup, suspend, may_suspend, resume, resume_outcome, kill, set_prio, lock, lock_outcome, nest_at, unlock, unlock_outcome, with_locks, sched_lock, sched_unlock}
 use Rattle.rt_plain.specs.Sound.{is_active, is_waiting, is_span, is_timeout}
-use Rattle.rt_plain.proofs.TallyLemmas.{tally, tally-among}
-use Rattle.rt_plain.proofs.Invariant.{Frame, Kept, parts, is_fine_awaited, IsNear, IsAhead, is_scriptless, IsNestRun, IsOffNest, fine-at, thread-kept, running-active, placed-active, off-nest, off-core, active-kept, waiting-kept, suspended-kept}
+use Rattle.rt_plain.specs.Tally.{tally}
+use Rattle.rt_plain.proofs.TallyLemmas.{tally-among}
+use Rattle.rt_plain.specs.Kept.{Frame, Kept, parts, is_fine_awaited, IsNear, IsAhead, is_scriptless, IsNestRun}
+use Rattle.rt_plain.proofs.Invariant.{IsOffNest, fine-at, thread-kept, running-active, placed-active, off-nest, off-core, active-kept, waiting-kept, suspended-kept}
 use Rattle.rt_plain.proofs.WakeLemmas.{wake-kept, close-kept}
 use Rattle.rt_plain.proofs.TestLemmas.{and-left, and-right, not-false, or-right, some-is}
 

@@ -10,8 +10,9 @@ use Rattle.rt_plain.specs.Waiting.{first_waiter, takes_mutex}
 use Rattle.rt_plain.specs.Owners.{with_owner, withdrawn_state, pass_effect, give_back_effect, mutexes_of, close_effect}
 use Rattle.rt_plain.specs.ThreadCalls.{suspended_state}
 use Rattle.rt_plain.specs.Sound.{is_waiting}
-use Rattle.rt_plain.proofs.TallyLemmas.{one_if, tally, same-set, length-set_at}
-use Rattle.rt_plain.proofs.Invariant.{stage_at}
+use Rattle.rt_plain.specs.Tally.{one_if, tally}
+use Rattle.rt_plain.proofs.TallyLemmas.{same-set, length-set_at}
+use Rattle.rt_plain.specs.Kept.{stage_at}
 use Rattle.rt_plain.proofs.WakeLemmas.{AllApart, first-waits}
 use Rattle.rt_plain.proofs.TestLemmas.{clash}
 

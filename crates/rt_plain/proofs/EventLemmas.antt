@@ -28,8 +28,10 @@ use Rattle.rt_plain.specs.DeviceCalls.{find_device}
 use Rattle.rt_plain.specs.Statements.{script_of, statement_at, is_shell, is_soft_thread, with_next, target, print_effect, said_text, with_counter, plain_effect, with_answer, call_effect, done_effect, next_statement_effect, repeated_call_effect, script_effect, thread_effect, statement_effect}
 use Rattle.rt_plain.specs.SoftTurn.{work_effect, soft_turn_effect, soft_effect}
 use Rattle.rt_plain.specs.Sound.{is_levelled_call, is_levelled, is_levelled_action, IsLevelled, IsBoardTimer}
-use Rattle.rt_plain.proofs.TallyLemmas.{one_if, tally, all-found}
-use Rattle.rt_plain.proofs.Invariant.{Frame, Kept, is_waiting_call, is_fine_awaited, IsFineRetry, is_owned, is_work_of, IsKnownWork, fine-at}
+use Rattle.rt_plain.specs.Tally.{one_if, tally}
+use Rattle.rt_plain.proofs.TallyLemmas.{all-found}
+use Rattle.rt_plain.specs.Kept.{Frame, Kept, is_waiting_call, is_fine_awaited, IsFineRetry, is_owned, is_work_of, IsKnownWork}
+use Rattle.rt_plain.proofs.Invariant.{fine-at}
 use Rattle.rt_plain.proofs.ObjectLemmas.{found-timer, found-name}
 use Rattle.rt_plain.proofs.StatementLemmas.{left-kept}
 use Rattle.rt_plain.proofs.TickLemmas.{still}

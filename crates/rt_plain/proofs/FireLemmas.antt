@@ -33,7 +33,7 @@ use Rattle.rt_plain.proofs.CallCosts.{HasFew, filter-fewer}
 use Rattle.rt_plain.proofs.CostLemmas.{Costs}
 use Rattle.rt_plain.proofs.WorkCosts.{period-cost}
 use Rattle.rt_plain.proofs.TickCosts.{alarm-cost}
-use Rattle.rt_plain.proofs.Invariant.{IsWaited}
+use Rattle.rt_plain.specs.Kept.{IsWaited}
 use Rattle.rt_plain.proofs.StatementCosts.{map-few, settled-lines}
 
 -- a wait list has no more threads than there are

@@ -23,8 +23,10 @@ use Rattle.rt_plain.specs.Statements.{statement_effect}
 use Rattle.rt_plain.specs.Pick.{pick}
 use Rattle.rt_plain.specs.Steps.{happens, with_running, without_mark, preempted_state, is_preemptible, takes_from, preempt_did, did_of_effect, statement_did, busy_core_did, is_all_idle, free_core_did, core_did, unhalted_step_did, unhalted_tick_did}
 use Rattle.rt_plain.specs.Sound.{IsLevelled, IsBoardTimer, IsProper}
-use Rattle.rt_plain.proofs.TallyLemmas.{tally, tally-dropped, all-passing}
-use Rattle.rt_plain.proofs.Invariant.{Frame, Kept, standings, fine-at, thread-kept, without_alarm-kept}
+use Rattle.rt_plain.specs.Tally.{tally}
+use Rattle.rt_plain.proofs.TallyLemmas.{tally-dropped, all-passing}
+use Rattle.rt_plain.specs.Kept.{Frame, Kept, standings}
+use Rattle.rt_plain.proofs.Invariant.{fine-at, thread-kept, without_alarm-kept}
 use Rattle.rt_plain.proofs.ObjectLemmas.{found-timer, found-name}
 use Rattle.rt_plain.proofs.StatementLemmas.{statement-kept}
 use Rattle.rt_plain.proofs.TickLemmas.{IsDueRow, still, firing, due-length, due-rows, row-kept, next-kept, alarms-kept, tick-kept}

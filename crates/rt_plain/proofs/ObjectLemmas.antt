@@ -31,8 +31,10 @@ use Rattle.rt_plain.specs.PowerCalls.{votes_for, pm_request, pm_release}
 use Rattle.rt_plain.specs.Calls.{outcome_of}
 use Rattle.rt_plain.specs.Due.{with_period, timer_effect, timer_action_effect}
 use Rattle.rt_plain.specs.Sound.{is_waiting, is_span, is_timeout, is_timed_call, is_timed_action}
-use Rattle.rt_plain.proofs.TallyLemmas.{all-weaker, all-filter, all-append, all-map, all-found, same-set, other-set, one_if, tally, tally-filter, tally-dropped}
-use Rattle.rt_plain.proofs.Invariant.{Frame, Kept, stage_at, IsAhead, is_work_of, is_owned, IsOwned, IsKnownWork, IsFineTimer, fine-at, thread-kept, without_alarm-kept, with_alarm-kept, works-kept}
+use Rattle.rt_plain.specs.Tally.{one_if, tally}
+use Rattle.rt_plain.proofs.TallyLemmas.{all-weaker, all-filter, all-append, all-map, all-found, same-set, other-set, tally-filter, tally-dropped}
+use Rattle.rt_plain.specs.Kept.{Frame, Kept, stage_at, IsAhead, is_work_of, is_owned, IsOwned, IsKnownWork, IsFineTimer}
+use Rattle.rt_plain.proofs.Invariant.{fine-at, thread-kept, without_alarm-kept, with_alarm-kept, works-kept}
 use Rattle.rt_plain.proofs.WakeLemmas.{wake-kept, retry_wake-kept, wake-others, IsListed, AllApart, apart-map, waiters-listed, waiters-apart, waiters-wait, first-waits, each-wakes, for-kept, give_back-kept, found-passes}
 use Rattle.rt_plain.proofs.CallLemmas.{KeptOutcome, IsBy, IsAttempt, if-outcome, found-outcome, missing-kept, value-kept, text-kept, wait_or-kept, delay-kept, yield-kept, startup-kept, suspend-kept, resume-kept, kill-kept, set_prio-kept, lock-kept, unlock-kept, sched_lock-kept, sched_unlock-kept}
 use Rattle.rt_plain.proofs.TestLemmas.{and-left, and-right, or-left, or-right, or-second, some-is}

@@ -13,8 +13,10 @@ use Rattle.rt_plain.specs.Effects.{with_alarm, is_alarm}
 use Rattle.rt_plain.specs.Opening.{new_timer, new_thread, new_script_thread, own_threads, new_threads, unstarted_state, with_auto_timer, open_state}
 use Rattle.rt_plain.specs.Runs.{thread_count}
 use Rattle.rt_plain.specs.Sound.{is_active, is_timed_action, IsProper}
-use Rattle.rt_plain.proofs.TallyLemmas.{one_if, tally, le_or_lt, all-append, all-weaker, past-end, tally-last, all-both}
-use Rattle.rt_plain.proofs.Invariant.{Kept, stage_at, places, standings, IsWaited, IsFineThread, IsFineTimer, IsRowKept, IsRowBounded, is_owned, IsOwned, alone-more, bounded-more}
+use Rattle.rt_plain.specs.Tally.{one_if, tally}
+use Rattle.rt_plain.proofs.TallyLemmas.{le_or_lt, all-append, all-weaker, past-end, tally-last, all-both}
+use Rattle.rt_plain.specs.Kept.{Kept, stage_at, places, standings, IsWaited, IsFineThread, IsFineTimer, IsRowKept, IsRowBounded, is_owned, IsOwned}
+use Rattle.rt_plain.proofs.Invariant.{alone-more, bounded-more}
 use Rattle.rt_plain.proofs.TickLemmas.{still}
 use Rattle.std.proofs.lemmas.Slice.Eq.{bytes_eq-Decides}
 use Rattle.std.proofs.lemmas.List.Folds.{list_any-append}

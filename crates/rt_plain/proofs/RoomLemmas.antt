@@ -23,8 +23,9 @@ use Rattle.rt_plain.specs.Shown.{shown}
 use Rattle.rt_plain.specs.Runs.{IsMade, IsRun, thread_count, room}
 use Rattle.rt_plain.specs.Sound.{is_waiting, IsProper, IsSized}
 use Rattle.rt_plain.proofs.RunLemmas.{IsRun-keeps}
-use Rattle.rt_plain.proofs.TallyLemmas.{tally-length, tally, tally-map, all-passing, all-filter, one_if, all-weaker}
-use Rattle.rt_plain.proofs.Invariant.{Kept}
+use Rattle.rt_plain.specs.Tally.{tally, one_if}
+use Rattle.rt_plain.proofs.TallyLemmas.{tally-length, tally-map, all-passing, all-filter, all-weaker}
+use Rattle.rt_plain.specs.Kept.{Kept}
 use Rattle.rt_plain.proofs.TickLemmas.{still}
 use Rattle.rt_plain.proofs.StepLemmas.{KeptAt, KeptDid, event-kept, ticks-kept}
 use Rattle.rt_plain.proofs.OpenLemmas.{opened-kept}

@@ -12,8 +12,10 @@ use Rattle.rt_plain.specs.Opening.{open_state}
 use Rattle.rt_plain.specs.Runs.{IsMade, IsRun, IsRunIn, is_over, is_over_in}
 use Rattle.rt_plain.specs.Sound.{is_active, place_count, IsProper, IsSound, IsWaitedFor, IsBoardTimer}
 use Rattle.rt_plain.proofs.RunLemmas.{IsRun-keeps}
-use Rattle.rt_plain.proofs.TallyLemmas.{one_if, tally-count, all-weaker, all-both}
-use Rattle.rt_plain.proofs.Invariant.{places, IsRowKept, IsRowBounded, IsWaited, IsFineTimer, nest-core, fine-at}
+use Rattle.rt_plain.specs.Tally.{one_if}
+use Rattle.rt_plain.proofs.TallyLemmas.{tally-count, all-weaker, all-both}
+use Rattle.rt_plain.specs.Kept.{places, IsRowKept, IsRowBounded, IsWaited, IsFineTimer}
+use Rattle.rt_plain.proofs.Invariant.{nest-core, fine-at}
 use Rattle.rt_plain.proofs.TickLemmas.{still}
 use Rattle.rt_plain.proofs.StepLemmas.{KeptAt, KeptDid, event-kept}
 use Rattle.rt_plain.proofs.OpenLemmas.{opened-kept}

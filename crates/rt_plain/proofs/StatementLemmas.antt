@@ -20,8 +20,10 @@ use Rattle.rt_plain.specs.TimerCalls.{find_timer}
 use Rattle.rt_plain.specs.SoftTurn.{work_effect, soft_turn_effect, soft_effect}
 use Rattle.rt_plain.specs.Sound.{is_timed, is_timed_call, IsProper}
 use Rattle.rt_plain.specs.Owners.{close_effect, withdrawn_state, give_back_effect, mutexes_of}
-use Rattle.rt_plain.proofs.TallyLemmas.{one_if, tally, all-found, same-set, le_or_lt, past-end, length-set_at, here-set}
-use Rattle.rt_plain.proofs.Invariant.{Frame, Kept, parts, is_waiting_call, is_fine_awaited, IsNear, IsFineRetry, is_scriptless, is_work_of, standings, IsKnownWork, IsOffNest, fine-at, thread-kept, waiting-kept, reordered-kept, withdrawn-kept, works-kept}
+use Rattle.rt_plain.specs.Tally.{one_if, tally}
+use Rattle.rt_plain.proofs.TallyLemmas.{all-found, same-set, le_or_lt, past-end, length-set_at, here-set}
+use Rattle.rt_plain.specs.Kept.{Frame, Kept, parts, is_waiting_call, is_fine_awaited, IsNear, IsFineRetry, is_scriptless, is_work_of, standings, IsKnownWork}
+use Rattle.rt_plain.proofs.Invariant.{IsOffNest, fine-at, thread-kept, waiting-kept, reordered-kept, withdrawn-kept, works-kept}
 use Rattle.rt_plain.proofs.WakeLemmas.{close-kept, each-kept, give_back-kept}
 use Rattle.rt_plain.proofs.CallLemmas.{KeptOutcome, IsBy}
 use Rattle.rt_plain.proofs.ObjectLemmas.{outcome-kept, action-kept, found-timer, found-owner, found-name}

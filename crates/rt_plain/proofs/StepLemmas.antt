@@ -14,8 +14,10 @@ use Rattle.rt_plain.specs.PowerCalls.{sleep_mode}
 use Rattle.rt_plain.specs.Steps.{happens, without_mark, is_preemptible, takes_from, preempt_did, did_of_effect, statement_did, busy_core_did, is_all_idle, free_core_did, core_did, unhalted_step_did, unhalted_tick_did}
 use Rattle.rt_plain.specs.Runs.{is_event_of}
 use Rattle.rt_plain.specs.Sound.{IsProper}
-use Rattle.rt_plain.proofs.TallyLemmas.{tally, all-count, all-map, all-filter, all-found}
-use Rattle.rt_plain.proofs.Invariant.{Kept, fine-at, thread-kept, run-kept, preempt-kept}
+use Rattle.rt_plain.specs.Tally.{tally}
+use Rattle.rt_plain.proofs.TallyLemmas.{all-count, all-map, all-filter, all-found}
+use Rattle.rt_plain.specs.Kept.{Kept}
+use Rattle.rt_plain.proofs.Invariant.{fine-at, thread-kept, run-kept, preempt-kept}
 use Rattle.rt_plain.proofs.StatementLemmas.{statement-kept}
 use Rattle.rt_plain.proofs.TickLemmas.{still, tick-kept}
 use Rattle.rt_plain.proofs.TestLemmas.{and-left, and-right, not-false, some-is}

@@ -12,8 +12,10 @@ use Rattle.rt_plain.specs.TimerCalls.{find_timer}
 use Rattle.rt_plain.specs.DeviceCalls.{find_device, with_device, console_waiter, indication_effect, notice_effect, arrival_effect_at, arrival_effect, is_sending, sent, registered_devices, ring_after}
 use Rattle.rt_plain.specs.Due.{due, timeout_code, alarm_effect, fired_row_effect, due_rows_effect}
 use Rattle.rt_plain.specs.Ticks.{thread_after_slice, with_slice_used, next_tick_state, alarms_effect, arrivals_now, deliveries, transmissions, with_until_halt, tick_effect}
-use Rattle.rt_plain.proofs.TallyLemmas.{one_if, tally, tally-filter, all-passing, all-both, tally-length}
-use Rattle.rt_plain.proofs.Invariant.{Frame, Kept, stage_at, is_owned, IsRowKept, IsWaited, IsOwned, waiting-open, is-there}
+use Rattle.rt_plain.specs.Tally.{one_if, tally}
+use Rattle.rt_plain.proofs.TallyLemmas.{tally-filter, all-passing, all-both, tally-length}
+use Rattle.rt_plain.specs.Kept.{Frame, Kept, stage_at, is_owned, IsRowKept, IsWaited, IsOwned}
+use Rattle.rt_plain.proofs.Invariant.{waiting-open, is-there}
 use Rattle.rt_plain.proofs.WakeLemmas.{console-waiter-waits}
 use Rattle.rt_plain.proofs.FuelLemmas.{range-among}
 use Rattle.rt_plain.proofs.TickLemmas.{still, firing, with_few, IsDueRow, due-length, due-rows, row-kept, filter-length, next-kept, alarms-kept}

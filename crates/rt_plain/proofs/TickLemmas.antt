@@ -14,8 +14,10 @@ use Rattle.rt_plain.specs.DeviceCalls.{find_device, with_device, console_waiter,
 use Rattle.rt_plain.specs.Due.{put_by_number, by_number, due, timeout_code, timeout_effect, soft_timer_effect, fired_timer_effect, alarm_effect, fired_row_effect, due_rows_effect}
 use Rattle.rt_plain.specs.Ticks.{thread_after_slice, with_slice_used, next_tick_state, alarms_effect, arrivals_now, deliveries, transmissions, with_until_halt, tick_effect}
 use Rattle.rt_plain.specs.Sound.{is_waiting}
-use Rattle.rt_plain.proofs.TallyLemmas.{one_if, tally, tally-last, tally-filter, tally-dropped, all-weaker, all-append, all-passing, all-both}
-use Rattle.rt_plain.proofs.Invariant.{Frame, Kept, is_owned, is_work_of, standings, IsKnownWork, IsFineThread, IsFineTimer, IsWaited, IsRowKept, fine-at, fine-later, bounded-later, thread-kept, without_alarm-kept, works-kept}
+use Rattle.rt_plain.specs.Tally.{one_if, tally}
+use Rattle.rt_plain.proofs.TallyLemmas.{tally-last, tally-filter, tally-dropped, all-weaker, all-append, all-passing, all-both}
+use Rattle.rt_plain.specs.Kept.{Frame, Kept, is_owned, is_work_of, standings, IsKnownWork, IsFineThread, IsFineTimer, IsWaited, IsRowKept}
+use Rattle.rt_plain.proofs.Invariant.{fine-at, fine-later, bounded-later, thread-kept, without_alarm-kept, works-kept}
 use Rattle.rt_plain.proofs.WakeLemmas.{wake-kept, retry_wake-kept, console-waiter-waits, work-waiter-waits, each-kept, for-kept}
 use Rattle.rt_plain.proofs.ObjectLemmas.{action-kept, found-owner, found-timer, found-name, sem_release-kept}
 use Rattle.rt_plain.proofs.StatementLemmas.{if-effect, settled-kept}

@@ -12,7 +12,8 @@ use Rattle.rt_plain.specs.DeviceCalls.{waits_at_console, console_waiter}
 use Rattle.rt_plain.specs.Works.{waits_for_work, work_waiter}
 use Rattle.rt_plain.specs.Sound.{is_waiting}
 use Rattle.rt_plain.proofs.TallyLemmas.{all-weaker, all-map, all-found, same-set, other-set}
-use Rattle.rt_plain.proofs.Invariant.{Frame, Kept, stage_at, is_fine_stage, IsNear, IsFineRetry, IsRowBounded, fine-at, thread-kept, waiting-open, waiting-inactive, active-kept, withdrawn-kept}
+use Rattle.rt_plain.specs.Kept.{Frame, Kept, stage_at, is_fine_stage, IsNear, IsFineRetry, IsRowBounded}
+use Rattle.rt_plain.proofs.Invariant.{fine-at, thread-kept, waiting-open, waiting-inactive, active-kept, withdrawn-kept}
 use Rattle.rt_plain.proofs.TestLemmas.{some-is}
 
 -- a thread that waits wakes with a code

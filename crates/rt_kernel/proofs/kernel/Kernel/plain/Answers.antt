@@ -2,7 +2,7 @@ use Rattle.std.proofs.Common.{◌≡◌, ◌≤◌, ◌++◌, List, ℕ, Option,
 use Rattle.rt_plain.specs.declared.stmt.Stmt.{Stmt}
 use Rattle.rt_plain.specs.State.{State, Thread, thread_at, running_on}
 use Rattle.rt_plain.specs.Effects.{Effect}
-use Rattle.rt_plain.proofs.Invariant.{Kept}
+use Rattle.rt_plain.specs.Kept.{Kept}
 use Rattle.rt_kernel.specs.Inside.{frame_of}
 use Rattle.rt_kernel.specs.Seen.{KernelSeen, DoesNext}
 use Rattle.rt_kernel.specs.View.{state_of}

@@ -1,6 +1,6 @@
 use Rattle.std.proofs.Common.{◌≡◌, ◌<◌, ℕ, Option, Some, true, sym, ap, ◌∙◌, subst, length}
 use Rattle.rt_plain.specs.State.{State, thread_at}
-use Rattle.rt_plain.proofs.Invariant.{Kept}
+use Rattle.rt_plain.specs.Kept.{Kept}
 use Rattle.rt_kernel.specs.Inside.{frame_of}
 use Rattle.rt_kernel.specs.Seen.{KernelSeen}
 use Rattle.rt_kernel.specs.View.{state_of}
