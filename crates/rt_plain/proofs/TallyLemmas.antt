@@ -2,18 +2,9 @@
 use Rattle.std.proofs.Common.{◌≡◌, ◌≢◌, ◌⊎◌, inl, inr, leb, leb-true, leb-false, ◌+◌, ◌≤◌, ◌<◌, ◌∷◌, [], ◌++◌, ℕ, zero, suc, List, Option, Some, None, Bool, true, false, not, ◌||◌, cond, length, eqb, refl, sym, ap, ◌∙◌, subst, arith, eq-eqb, eqb-true, ne_eqb, slice_index_or, slice_set, filter, map, count_by, if◌then◌else◌, find}
 use Rattle.std.specs.List.{AllByRecursion}
 use Rattle.std.proofs.lemmas.List.Recursion.{is_count_by}
+use Rattle.rt_plain.specs.Tally.{one_if, tally}
 use Rattle.rt_plain.specs.State.{is_number, is_among}
 use Rattle.rt_plain.proofs.TestLemmas.{some-is}
-
--- 1 where the test holds
-abbrev pub one_if : Bool → ℕ
-one_if true = 1
-one_if false = 0
-
--- how many pass
-abbrev pub tally : {X : Type 0} → (X → Bool) → List X → ℕ
-tally p [] = 0
-tally p (x ∷ xs) = one_if (p x) + tally p xs
 
 one_if-cond : (c : Bool) (n : ℕ) → one_if c + n ≡ cond c (1 + n) n
 one_if-cond true n = refl
