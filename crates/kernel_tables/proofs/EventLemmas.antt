@@ -8,9 +8,9 @@ use Rattle.std.proofs.lemmas.Option.{none-some, same_Some, slice_get_within, get
 use Rattle.rt_base.specs.declared.codes.Code.{Code}
 use Rattle.rt_base.specs.declared.codes.WaitOrder.{WaitOrder}
 use Rattle.rt_plain.specs.declared.stmt.Call.{Call}
-use Rattle.rt_plain.specs.State.{Thread, EventObj as PlainEvent}
-use Rattle.rt_plain.specs.Waiting.{receives_event}
-use Rattle.rt_plain.specs.EventCalls.{Wanting, Want as PlainWant, want_of, is_satisfied, satisfied_waiters, flags_left, flags_after}
+use Rattle.rt_plain.specs.kernel.State.{Thread, EventObj as PlainEvent}
+use Rattle.rt_plain.specs.kernel.Waiting.{receives_event}
+use Rattle.rt_plain.specs.kernel.EventCalls.{Wanting, Want as PlainWant, want_of, is_satisfied, satisfied_waiters, flags_left, flags_after}
 use Rattle.susp_list.specs.declared.row.Row.{Row as WaitRow}
 use Rattle.susp_list.specs.Rows.{line}
 use Rattle.object_box.specs.declared.fault.Make.{Make}

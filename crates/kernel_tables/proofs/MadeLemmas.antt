@@ -5,8 +5,8 @@ use Rattle.std.specs.Str.{bytes_eq}
 use Rattle.std.proofs.lemmas.Bool.{false≢true, eqb-true, eqb-false}
 use Rattle.std.proofs.lemmas.Option.{none-some}
 use Rattle.rt_plain.specs.declared.stmt.Call.{Call}
-use Rattle.rt_plain.specs.State.{Thread, Stage, Waiting, InCall}
-use Rattle.rt_plain.specs.Waiting.{number_in}
+use Rattle.rt_plain.specs.kernel.State.{Thread, Stage, Waiting, InCall}
+use Rattle.rt_plain.specs.kernel.Waiting.{number_in}
 use Rattle.susp_list.specs.Rows.{Waits, line}
 use Rattle.object_box.specs.declared.object.Object.{Object}
 use Rattle.object_box.specs.Classes.{AllObjects}

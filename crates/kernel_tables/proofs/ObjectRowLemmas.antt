@@ -7,8 +7,8 @@ use Rattle.std.proofs.lemmas.List.{get_or_default}
 use Rattle.std.proofs.lemmas.Option.{none-some, same_Some, slice_get-map, slice_get_within, get_or_from_slice_get}
 use Rattle.rt_plain.specs.declared.row.Row.{Row}
 use Rattle.rt_plain.specs.declared.stmt.Call.{Call}
-use Rattle.rt_plain.specs.State.{Thread}
-use Rattle.rt_plain.specs.Waiting.{takes_sem, receives_event}
+use Rattle.rt_plain.specs.kernel.State.{Thread}
+use Rattle.rt_plain.specs.kernel.Waiting.{takes_sem, receives_event}
 use Rattle.susp_list.specs.Rows.{Waits, line}
 use Rattle.object_box.specs.declared.object.Object.{Object}
 use Rattle.object_box.specs.Objects.{ClassObjects, IsSound, number_of}

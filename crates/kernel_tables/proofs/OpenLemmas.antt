@@ -3,8 +3,8 @@ use Rattle.std.proofs.Common.{◌≡◌, ℕ, zero, suc, ◌+◌, ◌<◌, arith
 use Rattle.std.specs.List.{AllByRecursion}
 use Rattle.std.proofs.lemmas.List.{map_more, map-append}
 use Rattle.rt_plain.specs.declared.board.ThreadDef.{ThreadDef}
-use Rattle.rt_plain.specs.State.{Thread}
-use Rattle.rt_plain.specs.Opening.{new_script_thread}
+use Rattle.rt_plain.specs.kernel.State.{Thread}
+use Rattle.rt_plain.specs.kernel.Opening.{new_script_thread}
 use Rattle.kernel_tables.specs.declared.rows.Row.{Row}
 use Rattle.kernel_tables.specs.Threads.{plain_thread}
 

@@ -10,8 +10,8 @@ use Rattle.std.proofs.lemmas.Option.{same_Some}
 use Rattle.susp_list.specs.declared.row.Row.{Row as WaitRow}
 use Rattle.rt_base.specs.declared.codes.Code.{Code}
 use Rattle.rt_base.specs.declared.codes.WaitOrder.{WaitOrder}
-use Rattle.rt_plain.specs.State.{Thread, Sem}
-use Rattle.rt_plain.specs.Waiting.{takes_sem, head_of, first_of}
+use Rattle.rt_plain.specs.kernel.State.{Thread, Sem}
+use Rattle.rt_plain.specs.kernel.Waiting.{takes_sem, head_of, first_of}
 use Rattle.susp_list.specs.Rows.{line, waiters}
 use Rattle.object_box.specs.declared.object.Object.{Object}
 use Rattle.object_box.specs.Classes.{AllObjects}

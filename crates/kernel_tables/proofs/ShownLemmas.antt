@@ -2,7 +2,7 @@
 use Rattle.std.proofs.Common.{◌≡◌, ℕ, ◌+◌, ◌≤◌, ◌∷◌, [], List, Bool, true, false, not, length, filter, reverse, ap, ◌∙◌, subst, sym}
 use Rattle.std.specs.List.{range_with_len}
 use Rattle.std.proofs.lemmas.List.{reverse-append, length-reverse}
-use Rattle.rt_plain.specs.State.{Thread, is_closed}
+use Rattle.rt_plain.specs.kernel.State.{Thread, is_closed}
 use Rattle.kernel_tables.specs.Shown.{shown_below}
 use Rattle.kernel_tables.specs.Threads.{row_at}
 use Rattle.kernel_tables.proofs.ListLemmas.{filter_passes, filter_fails, length_passes}

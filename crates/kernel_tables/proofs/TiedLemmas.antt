@@ -5,9 +5,9 @@ use Rattle.std.specs.List.{range_with_len, cons_option}
 use Rattle.std.proofs.lemmas.List.{length-map, map-set, length-set}
 use Rattle.rt_base.specs.declared.codes.WaitOrder.{WaitOrder}
 use Rattle.rt_plain.specs.declared.stmt.Call.{Call}
-use Rattle.rt_plain.specs.State.{Thread, Stage, Waiting, InCall, no_thread}
-use Rattle.rt_plain.specs.Waiting.{number_in, threads_in_order}
-use Rattle.rt_plain.specs.EventCalls.{want_of}
+use Rattle.rt_plain.specs.kernel.State.{Thread, Stage, Waiting, InCall, no_thread}
+use Rattle.rt_plain.specs.kernel.Waiting.{number_in, threads_in_order}
+use Rattle.rt_plain.specs.kernel.EventCalls.{want_of}
 use Rattle.susp_list.specs.Rows.{Waits, line, waiter_of as row_waiter}
 use Rattle.object_box.specs.Classes.{AllObjects}
 use Rattle.ipc_counts.specs.Sent.{want_at}

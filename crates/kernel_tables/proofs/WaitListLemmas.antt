@@ -8,8 +8,8 @@ use Rattle.std.proofs.lemmas.Slice.Eq.{bytes_eq-Decides}
 use Rattle.std.proofs.lemmas.List.Elements.{All-head, All-tail}
 use Rattle.std.proofs.lemmas.Bool.{false≢true, eqb-true}
 use Rattle.rt_plain.specs.declared.stmt.Call.{Call}
-use Rattle.rt_plain.specs.State.{Thread, Stage, Waiting, InCall, is_number}
-use Rattle.rt_plain.specs.Waiting.{number_in}
+use Rattle.rt_plain.specs.kernel.State.{Thread, Stage, Waiting, InCall, is_number}
+use Rattle.rt_plain.specs.kernel.Waiting.{number_in}
 use Rattle.object_box.specs.declared.object.Object.{Object}
 use Rattle.object_box.specs.Classes.{AllObjects}
 use Rattle.object_box.specs.Objects.{number_of, IsSound}

@@ -10,9 +10,9 @@ use Rattle.std.proofs.lemmas.Option.{none-some, same_Some}
 use Rattle.rt_base.specs.declared.codes.Code.{Code}
 use Rattle.rt_base.specs.declared.codes.WaitOrder.{WaitOrder}
 use Rattle.rt_plain.specs.declared.stmt.Call.{Call}
-use Rattle.rt_plain.specs.State.{Thread, Stage, Active, Waiting, InCall}
-use Rattle.rt_plain.specs.Waiting.{Waiter, number_in, in_order, head_of}
-use Rattle.rt_plain.specs.EventCalls.{want_of}
+use Rattle.rt_plain.specs.kernel.State.{Thread, Stage, Active, Waiting, InCall}
+use Rattle.rt_plain.specs.kernel.Waiting.{Waiter, number_in, in_order, head_of}
+use Rattle.rt_plain.specs.kernel.EventCalls.{want_of}
 use Rattle.susp_list.specs.declared.row.Row.{Row as WaitRow}
 use Rattle.susp_list.specs.Rows.{Waits, line}
 use Rattle.susp_list.proofs.OrderLemmas.{Each, Each-in_order, length-in_order}

@@ -2,8 +2,8 @@
 use Rattle.std.specs.Prelude.{ℕ, ◌≡◌, ◌<◌, Bool, true, false, List, [], length, Option, Some, None, IfSome, IsTrue, map, slice_get, slice_set, slice_index_or, if◌then◌else◌}
 use Rattle.rt_base.specs.declared.codes.WaitOrder.{WaitOrder}
 use Rattle.rt_plain.specs.declared.stmt.Call.{Call}
-use Rattle.rt_plain.specs.State.{Thread, Sem, EventObj}
-use Rattle.rt_plain.specs.Waiting.{number_in}
+use Rattle.rt_plain.specs.kernel.State.{Thread, Sem, EventObj}
+use Rattle.rt_plain.specs.kernel.Waiting.{number_in}
 use Rattle.susp_list.specs.Rows.{Waits, holds, with_prio}
 use Rattle.susp_list.specs.declared.row.Row.{Row as WaitRow}
 use Rattle.object_box.specs.declared.object.Object.{Object}

@@ -1,7 +1,7 @@
 -- What the row of a thread stands for.
 use Rattle.std.specs.Prelude.{◌≡◌, ◌==◌, ◌-◌, ℕ, Bool, true, not, ◌&&◌, List, [], None, slice_set, slice_index_or, if◌then◌else◌}
 use Rattle.std.specs.Str.{bytes_eq}
-use Rattle.rt_plain.specs.State.{Thread, Stage, Initial, Active, Waiting, Suspended, Closed, InCall, no_thread, is_closed}
+use Rattle.rt_plain.specs.kernel.State.{Thread, Stage, Initial, Active, Waiting, Suspended, Closed, InCall, no_thread, is_closed}
 use Rattle.kernel_tables.specs.declared.place.Place.{Place}
 use Rattle.kernel_tables.specs.declared.rows.Row.{Row}
 use Rattle.kernel_tables.specs.declared.vars.Vars.{Vars}

@@ -5,8 +5,8 @@ use Rattle.std.specs.Option.{option_map}
 use Rattle.std.specs.Str.{bytes_eq}
 use Rattle.rt_base.specs.declared.codes.Class.{Class}
 use Rattle.rt_plain.specs.declared.stmt.Call.{Call}
-use Rattle.rt_plain.specs.State.{Stage, Waiting, InCall}
-use Rattle.rt_plain.specs.Waiting.{takes_sem, receives_event}
+use Rattle.rt_plain.specs.kernel.State.{Stage, Waiting, InCall}
+use Rattle.rt_plain.specs.kernel.Waiting.{takes_sem, receives_event}
 use Rattle.object_box.specs.declared.object.Object.{Object}
 use Rattle.object_box.specs.Classes.{AllObjects, of_class}
 use Rattle.object_box.specs.Objects.{ClassObjects, number_of}

@@ -1,5 +1,5 @@
 ghost use Rattle.std.specs.Prelude.{◌≡◌, ◌<◌, Some};
-ghost use Rattle.rt_plain.specs.Waiting.{head_of};
+ghost use Rattle.rt_plain.specs.kernel.Waiting.{head_of};
 ghost use Rattle.susp_list.specs.Rows.{line};
 ghost use Rattle.kernel_tables.specs.Listed.{waits_in, slots_in, want_in, left, taken, moved, Holds, MayJoin, IsRelisted, IsJoined};
 ghost use Rattle.kernel_tables.specs.Threads.{stage_of};

@@ -1,8 +1,8 @@
 ghost use Rattle.std.specs.Prelude.{◌≡◌, not, [], reverse, length, map, filter, None, IfOk, if◌then◌else◌};
 ghost use Rattle.std.specs.List.{range_with_len, AllByRecursion};
 ghost use Rattle.rt_plain.specs.declared.board.ThreadDef.{ThreadDef as PlainDef};
-ghost use Rattle.rt_plain.specs.State.{Active, Initial, is_initial};
-ghost use Rattle.rt_plain.specs.Opening.{new_script_thread, new_sem, new_event};
+ghost use Rattle.rt_plain.specs.kernel.State.{Active, Initial, is_initial};
+ghost use Rattle.rt_plain.specs.kernel.Opening.{new_script_thread, new_sem, new_event};
 ghost use Rattle.kernel_tables.specs.Opened.{empty_waits, AreFreeSems, AreFreeEvents, AreEmpty, MayCreateSems, MayCreateEvents, MayOpen, first_tables};
 ghost use Rattle.kernel_tables.specs.Threads.{plain_thread, row_at, stage_of};
 

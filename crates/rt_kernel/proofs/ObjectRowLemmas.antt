@@ -4,9 +4,9 @@ use Rattle.std.proofs.lemmas.Option.{slice_get-map}
 use Rattle.rt_base.specs.declared.codes.Class.{Class}
 use Rattle.rt_plain.specs.declared.row.Row.{Row}
 use Rattle.rt_plain.specs.PlainBoard.{PlainBoard}
-use Rattle.rt_plain.specs.State.{State, Sem, EventObj}
-use Rattle.rt_plain.specs.Waiting.{takes_sem, receives_event}
-use Rattle.rt_plain.specs.Rows.{rows, sem_row, event_row}
+use Rattle.rt_plain.specs.kernel.State.{State, Sem, EventObj}
+use Rattle.rt_plain.specs.kernel.Waiting.{takes_sem, receives_event}
+use Rattle.rt_plain.specs.kernel.Rows.{rows, sem_row, event_row}
 use Rattle.kernel_tables.specs.ObjectRows.{sem_shown, event_shown}
 use Rattle.rt_kernel.proofs.CurLemmas.{IsFree}
 use Rattle.rt_kernel.proofs.WaiterLemmas.{waiters-line}

@@ -1,9 +1,9 @@
 -- The rows of the table of threads.
 use Rattle.std.proofs.Common.{◌≡◌, ℕ, replicate, refl}
 use Rattle.rt_base.specs.declared.codes.Sleep.{Sleep}
-use Rattle.rt_plain.specs.State.{thread_at}
-use Rattle.rt_plain.specs.Priority.{cur}
-use Rattle.rt_plain.specs.PowerCalls.{votes_for}
+use Rattle.rt_plain.specs.kernel.State.{thread_at}
+use Rattle.rt_plain.specs.kernel.Priority.{cur}
+use Rattle.rt_plain.specs.kernel.PowerCalls.{votes_for}
 use Rattle.rt_kernel.specs.declared.records.Records.{Records}
 use Rattle.rt_kernel.specs.View.{state_of}
 use Rattle.rt_kernel.proofs.CurLemmas.{cur-base}

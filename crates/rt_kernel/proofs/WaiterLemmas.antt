@@ -3,8 +3,8 @@ use Rattle.std.proofs.Common.{◌≡◌, ℕ, List, [], ◌∷◌, Option, Some,
 use Rattle.std.specs.List.{range_with_len, cons_option}
 use Rattle.rt_base.specs.declared.codes.WaitOrder.{WaitOrder}
 use Rattle.rt_plain.specs.declared.stmt.Call.{Call}
-use Rattle.rt_plain.specs.State.{State, thread_at}
-use Rattle.rt_plain.specs.Waiting.{number_in, threads_in_order, waiters, waiter_of}
+use Rattle.rt_plain.specs.kernel.State.{State, thread_at}
+use Rattle.rt_plain.specs.kernel.Waiting.{number_in, threads_in_order, waiters, waiter_of}
 use Rattle.kernel_tables.specs.Tabled.{base_waiter, waiter_with, line_of}
 use Rattle.rt_kernel.proofs.CurLemmas.{IsFree, cur-base}
 

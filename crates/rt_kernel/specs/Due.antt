@@ -1,7 +1,7 @@
 -- Which armed row fires next.
 use Rattle.std.specs.Prelude.{ℕ, List, [], ◌∷◌, Option, Some, None, nat_lt, if◌then◌else◌, ◌==◌}
-use Rattle.rt_plain.specs.State.{State, ArmedRow, Alarm, OfThread}
-use Rattle.rt_plain.specs.Effects.{without_alarm}
+use Rattle.rt_plain.specs.kernel.State.{State, ArmedRow, Alarm, OfThread}
+use Rattle.rt_plain.specs.kernel.Effects.{without_alarm}
 use Rattle.rt_kernel.specs.declared.armed.Armed.{Armed}
 
 -- the row of a wait

@@ -1,5 +1,5 @@
 ghost use Rattle.std.specs.Prelude.{◌≡◌, IfOk};
-ghost use Rattle.rt_plain.specs.Opening.{open_state};
+ghost use Rattle.rt_plain.specs.kernel.Opening.{open_state};
 ghost use Rattle.rt_kernel.specs.Built.{IsBuilt};
 ghost use Rattle.rt_kernel.specs.Limits.{limits_of, board_limits};
 ghost use Rattle.rt_kernel.specs.View.{state_of};

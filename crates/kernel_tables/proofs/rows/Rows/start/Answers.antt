@@ -1,5 +1,5 @@
 use Rattle.std.proofs.Common.{ℕ, List, Bool, not, ◌++◌, ◌∷◌, [], length, arith, ap, sym, ◌∙◌}
-use Rattle.rt_plain.specs.State.{is_initial}
+use Rattle.rt_plain.specs.kernel.State.{is_initial}
 use Rattle.kernel_tables.specs.Threads.{row_at}
 use Rattle.kernel_tables.proofs.ListLemmas.{length_passes, filter_passes, filter_fails}
 use Rattle.kernel_tables.proofs.rows.Rows.start.Goals.{then-not-is_initial, else-not-is_initial}

@@ -1,5 +1,5 @@
 use Rattle.std.proofs.Common.{refl, sym, ap, ◌∙◌, subst, ◌<◌, length, None, List}
-use Rattle.rt_plain.specs.State.{Thread, Stage, Closed}
+use Rattle.rt_plain.specs.kernel.State.{Thread, Stage, Closed}
 use Rattle.kernel_tables.specs.Listed.{Holds, left, IsRelisted}
 use Rattle.kernel_tables.specs.Tabled.{Tabled}
 use Rattle.kernel_tables.specs.Threads.{row_at, with_row}

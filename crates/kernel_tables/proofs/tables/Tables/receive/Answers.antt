@@ -1,7 +1,7 @@
 use Rattle.std.proofs.Common.{arith, ◌≡◌, ◌<◌, List, Option, Some, None, length, refl, sym, ap, ◌∙◌}
 use Rattle.std.specs.Option.{option_map}
 use Rattle.std.proofs.lemmas.List.{get_or_read}
-use Rattle.rt_plain.specs.State.{EventObj as PlainEvent}
+use Rattle.rt_plain.specs.kernel.State.{EventObj as PlainEvent}
 use Rattle.object_box.specs.Objects.{number_of}
 use Rattle.ipc_counts.specs.Flags.{Flagged, plain_want}
 use Rattle.kernel_tables.specs.Listed.{event_at, plain_event, plain_events}

@@ -1,5 +1,5 @@
 use Rattle.std.proofs.Common.{refl, sym, ap, ◌∙◌, subst, ◌<◌, length, List}
-use Rattle.rt_plain.specs.State.{Thread, Stage}
+use Rattle.rt_plain.specs.kernel.State.{Thread, Stage}
 use Rattle.kernel_tables.specs.Listed.{Holds, left, IsRelisted}
 use Rattle.kernel_tables.specs.Tabled.{Tabled}
 use Rattle.kernel_tables.specs.Threads.{row_at, with_row, stage_of}

@@ -1,5 +1,5 @@
 use Rattle.std.proofs.Common.{refl, sym, ap, ◌∙◌, subst, ◌≡◌, ◌<◌, length, List, true}
-use Rattle.rt_plain.specs.State.{Thread, Stage, Waiting, InCall}
+use Rattle.rt_plain.specs.kernel.State.{Thread, Stage, Waiting, InCall}
 use Rattle.object_box.specs.Classes.{AllObjects}
 use Rattle.kernel_tables.specs.Listed.{Holds, left, IsRelisted}
 use Rattle.kernel_tables.specs.Tabled.{Tabled, knows}
