@@ -1,12 +1,12 @@
 -- A canonical text is that of one board.
 use Rattle.std.proofs.Common.{◌≡◌, ℕ, ◌≤◌, List, length, Result, Ok, sym, subst}
 use Rattle.rt_plain.specs.PlainBoard.{PlainBoard}
-use Rattle.rt_plain.specs.BoardText.{IsBoard}
-use Rattle.rt_plain.specs.Canon.{IsValid, canonical_text}
+use Rattle.rt_plain.specs.text.BoardText.{IsBoard}
+use Rattle.rt_plain.specs.text.Canon.{IsValid, canonical_text}
 use Rattle.board_text.specs.declared.fault.BoardFault.{BoardFault}
 use Rattle.board_text.specs.Faults.{longest, IsOrMemory}
-use Rattle.rt_plain.proofs.ValidLemmas.{canonical_is_board}
-use Rattle.rt_plain.proofs.BoardLemmas.{one_board as of_one_text}
+use Rattle.rt_plain.proofs.text.ValidLemmas.{canonical_is_board}
+use Rattle.rt_plain.proofs.text.BoardLemmas.{one_board as of_one_text}
 
 pub is_read : (b : PlainBoard) → IsValid b → IsBoard (canonical_text b) b
 is_read b valid = canonical_is_board b valid

@@ -10,13 +10,13 @@ use Rattle.rt_plain.specs.declared.board.ThreadDef.{ThreadDef}
 use Rattle.rt_plain.specs.declared.board_line.BoardLine.{BoardLine}
 use Rattle.rt_plain.specs.declared.stmt.Stmt.{Stmt}
 use Rattle.rt_plain.specs.PlainBoard.{PlainBoard}
-use Rattle.rt_plain.specs.Words.{words}
-use Rattle.rt_plain.specs.StatementTable.{statement_words}
-use Rattle.rt_plain.specs.Texts.{with_newline}
-use Rattle.rt_plain.specs.Fields.{timer_kind_text, either}
-use Rattle.rt_plain.specs.Tails.{event_text, timer_call_words}
-use Rattle.rt_plain.specs.LineTable.{text_of}
-use Rattle.rt_plain.specs.Canon.{thread_lines, line_of_thread, setting_lines, shell_lines, soft_lines, limit_lines, object_lines, board_lines, canonical_text}
+use Rattle.rt_plain.specs.text.Words.{words}
+use Rattle.rt_plain.specs.text.StatementTable.{statement_words}
+use Rattle.rt_plain.specs.text.Texts.{with_newline}
+use Rattle.rt_plain.specs.text.Fields.{timer_kind_text, either}
+use Rattle.rt_plain.specs.text.Tails.{event_text, timer_call_words}
+use Rattle.rt_plain.specs.text.LineTable.{text_of}
+use Rattle.rt_plain.specs.text.Canon.{thread_lines, line_of_thread, setting_lines, shell_lines, soft_lines, limit_lines, object_lines, board_lines, canonical_text}
 use Rattle.board_show.specs.declared.shown.Shown.{Shown}
 use Rattle.board_show.specs.Writing.{shown, whole_line, whole_lines, line_by_line, timer_call_text, timer_fields, statement_text, order_line}
 

@@ -4,8 +4,8 @@ use Rattle.std.specs.Prelude.{OnOk}
 use Rattle.std.proofs.lemmas.Result.{on_ok_weaker}
 use Rattle.rt_plain.specs.declared.stmt.Call.{Call}
 use Rattle.rt_plain.specs.declared.stmt.Stmt.{Stmt}
-use Rattle.rt_plain.specs.Words.{words}
-use Rattle.rt_plain.specs.StatementTable.{statement_words}
+use Rattle.rt_plain.specs.text.Words.{words}
+use Rattle.rt_plain.specs.text.StatementTable.{statement_words}
 use Rattle.board_show.specs.Writing.{call_words, call_text, statement_text}
 
 -- equal words

@@ -6,13 +6,13 @@ use Rattle.rt_plain.specs.declared.stmt.Stmt.{Stmt}
 use Rattle.rt_plain.specs.declared.stmt.Call.{Call}
 use Rattle.rt_base.specs.declared.codes.Event.{Event}
 use Rattle.rt_plain.specs.declared.board.TimerDef.{TimerDef}
-use Rattle.rt_plain.specs.Fields.{timer_kind_text, either}
-use Rattle.rt_plain.specs.Words.{words}
-use Rattle.rt_plain.specs.Texts.{quoted_text, with_newline}
-use Rattle.rt_plain.specs.FieldLists.{spelled_all, no_words}
-use Rattle.rt_plain.specs.StatementTable.{statement_row, call_kind, call_values, statement_words}
-use Rattle.rt_plain.specs.Tails.{timer_call_words, event_text}
-use Rattle.rt_plain.specs.LineTable.{text_of}
+use Rattle.rt_plain.specs.text.Fields.{timer_kind_text, either}
+use Rattle.rt_plain.specs.text.Words.{words}
+use Rattle.rt_plain.specs.text.Texts.{quoted_text, with_newline}
+use Rattle.rt_plain.specs.text.FieldLists.{spelled_all, no_words}
+use Rattle.rt_plain.specs.text.StatementTable.{statement_row, call_kind, call_values, statement_words}
+use Rattle.rt_plain.specs.text.Tails.{timer_call_words, event_text}
+use Rattle.rt_plain.specs.text.LineTable.{text_of}
 use Rattle.board_show.specs.declared.shown.Shown.{Shown}
 use Rattle.board_show.specs.declared.shown.Shown.TheVariants.{Word, Number, Negative, Quoted}
 

@@ -1,8 +1,8 @@
 //! The words for the values of fields.
 ghost use Rattle.std.specs.Prelude.{◌≡◌, decimal, codes};
-ghost use Rattle.rt_plain.specs.Words.{code_text, sleep_text, run_mode_text, order_text, class_text};
-ghost use Rattle.rt_plain.specs.Texts.{quoted_text};
-ghost use Rattle.rt_plain.specs.Fields.{number_or, name_or_dash, either, what_text, timer_kind_text};
+ghost use Rattle.rt_plain.specs.text.Words.{code_text, sleep_text, run_mode_text, order_text, class_text};
+ghost use Rattle.rt_plain.specs.text.Texts.{quoted_text};
+ghost use Rattle.rt_plain.specs.text.Fields.{number_or, name_or_dash, either, what_text, timer_kind_text};
 ghost use Rattle.board_show.specs.Writing.{shown};
 
 use crate::shown::Shown;

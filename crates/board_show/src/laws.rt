@@ -1,7 +1,7 @@
 //! What is shown is read again.
 ghost use Rattle.std.specs.Prelude.{◌≡◌, ◌≤◌, length, Ok};
 ghost use Rattle.rt_plain.specs.PlainBoard.{PlainBoard};
-ghost use Rattle.rt_plain.specs.Canon.{IsValid, canonical_text};
+ghost use Rattle.rt_plain.specs.text.Canon.{IsValid, canonical_text};
 ghost use Rattle.board_text.specs.Faults.{IsOrMemory, longest};
 
 use crate::showing::show;

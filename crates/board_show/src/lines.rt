@@ -1,8 +1,8 @@
 //! Writing whole lines.
 ghost use Rattle.std.specs.Prelude.{◌≡◌, ◌++◌, ◌∷◌, OnOk};
 ghost use Rattle.std.specs.List.{flat_map};
-ghost use Rattle.rt_plain.specs.Tails.{event_text, limit_word};
-ghost use Rattle.rt_plain.specs.Canon.{line_of_thread, thread_lines};
+ghost use Rattle.rt_plain.specs.text.Tails.{event_text, limit_word};
+ghost use Rattle.rt_plain.specs.text.Canon.{line_of_thread, thread_lines};
 ghost use Rattle.rt_plain.specs.declared.board_line.BoardLine.TheVariants as said;
 ghost use Rattle.board_show.specs.Writing.{order_line, shown, timer_call_text, timer_fields, whole_line, whole_lines};
 

@@ -1,6 +1,6 @@
 //! Writing a board, line by line.
 ghost use Rattle.std.specs.Prelude.{◌≡◌, ◌++◌, OnOk, IfOk};
-ghost use Rattle.rt_plain.specs.Canon.{canonical_text, object_lines, setting_lines, shell_lines, soft_lines};
+ghost use Rattle.rt_plain.specs.text.Canon.{canonical_text, object_lines, setting_lines, shell_lines, soft_lines};
 ghost use Rattle.board_show.specs.Writing.{line_by_line, whole_line, whole_lines};
 ghost use Rattle.rt_plain.specs.declared.board_line.BoardLine.TheVariants as said;
 ghost use Rattle.rt_plain.specs.declared.board_line.LimitClass.TheVariants as limit;

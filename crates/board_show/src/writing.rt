@@ -2,8 +2,8 @@
 ghost use Rattle.std.specs.Prelude.{◌≡◌, ◌++◌, [], ◌∷◌, ◌<◌, OnOk, false, map, codes};
 ghost use Rattle.std.specs.Fmt.{decimal, digit_glyph};
 ghost use Rattle.std.specs.List.{flat_map};
-ghost use Rattle.rt_plain.specs.Words.{words};
-ghost use Rattle.rt_plain.specs.Texts.{escape_of, quoted_text, with_newline};
+ghost use Rattle.rt_plain.specs.text.Words.{words};
+ghost use Rattle.rt_plain.specs.text.Texts.{escape_of, quoted_text, with_newline};
 ghost use Rattle.board_show.specs.Writing.{shown};
 
 use crate::shown::Shown;

@@ -4,11 +4,11 @@ use Rattle.std.specs.Prelude.{IfOk, IfErr}
 use Rattle.std.proofs.lemmas.List.{nil_from_length}
 use Rattle.rt_plain.specs.declared.why.Why.{Why}
 use Rattle.rt_plain.specs.PlainBoard.{PlainBoard}
-use Rattle.rt_plain.specs.Splits.{lines_of}
-use Rattle.rt_plain.specs.BoardText.{SoFar, start, Bad, outcome, reading, IsBoard, first_bad, error_of}
-use Rattle.rt_plain.specs.Canon.{IsValid}
-use Rattle.rt_plain.proofs.ValidLemmas.{read_is_valid}
-use Rattle.rt_plain.proofs.BoardLemmas.{IsSound, sound-start, sound-after, outcome_skipped, outcome_judged, board-takes, board-again}
+use Rattle.rt_plain.specs.text.Splits.{lines_of}
+use Rattle.rt_plain.specs.text.BoardText.{SoFar, start, Bad, outcome, reading, IsBoard, first_bad, error_of}
+use Rattle.rt_plain.specs.text.Canon.{IsValid}
+use Rattle.rt_plain.proofs.text.ValidLemmas.{read_is_valid}
+use Rattle.rt_plain.proofs.text.BoardLemmas.{IsSound, sound-start, sound-after, outcome_skipped, outcome_judged, board-takes, board-again}
 use Rattle.board_text.specs.declared.fault.Refusal.{Refusal}
 use Rattle.board_text.specs.declared.fault.BoardFault.{BoardFault}
 use Rattle.board_text.specs.Steps.{Passes, Stops}

@@ -1,6 +1,6 @@
 -- What a draft says so far.
 use Rattle.rt_plain.specs.PlainBoard.{PlainBoard}
-use Rattle.rt_plain.specs.BoardText.{SoFar}
+use Rattle.rt_plain.specs.text.BoardText.{SoFar}
 use Rattle.board_text.specs.declared.draft.Draft.{Draft}
 
 -- the board of a draft

@@ -1,7 +1,7 @@
 -- What the parser answers.
 use Rattle.std.specs.Prelude.{◌≡◌, ℕ, ◌≤◌, ◌<◌, List, length, Some, Result, Ok, Err}
 use Rattle.rt_plain.specs.PlainBoard.{PlainBoard}
-use Rattle.rt_plain.specs.BoardText.{Bad, first_bad}
+use Rattle.rt_plain.specs.text.BoardText.{Bad, first_bad}
 use Rattle.board_text.specs.declared.fault.BoardFault.{BoardFault}
 
 -- the most bytes of a board's text

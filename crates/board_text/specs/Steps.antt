@@ -1,7 +1,7 @@
 -- What one line does to what was read so far.
 use Rattle.std.specs.Prelude.{◌≡◌, ℕ, List, not, Ok, Err, IsTrue, ◌⊎◌}
 use Rattle.rt_plain.specs.declared.board_line.BoardLine.{BoardLine}
-use Rattle.rt_plain.specs.BoardText.{SoFar, judged, after, is_skipped}
+use Rattle.rt_plain.specs.text.BoardText.{SoFar, judged, after, is_skipped}
 use Rattle.board_text.specs.declared.fault.Refusal.{Refusal}
 
 -- a line takes what was read so far to what is read with it

@@ -1,8 +1,8 @@
 //! A board that is being read.
 ghost use Rattle.std.specs.Prelude.{◌≡◌, OnOk, IfErr};
-ghost use Rattle.rt_plain.specs.BoardText.{start, added, after, limited_after, scripted, unscripted, with_limit};
-ghost use Rattle.rt_plain.specs.LineTable.{row, kind_of};
-ghost use Rattle.rt_plain.specs.Canon.{IsValid};
+ghost use Rattle.rt_plain.specs.text.BoardText.{start, added, after, limited_after, scripted, unscripted, with_limit};
+ghost use Rattle.rt_plain.specs.text.LineTable.{row, kind_of};
+ghost use Rattle.rt_plain.specs.text.Canon.{IsValid};
 ghost use Rattle.board_text.specs.Drafts.{so_far, board_of};
 
 use crate::fault::Refusal;
@@ -48,7 +48,7 @@ pub(crate) struct Draft {
 }
 
 /// Adds a statement to the last script. After an `Err` the last thread may be gone.
-#[tactic(auto, using(rt_plain::proofs::BoardLemmas::scripted_last))]
+#[tactic(auto, using(rt_plain::proofs::text::BoardLemmas::scripted_last))]
 fn add_statement(threads: &mut List<ThreadDef>, s: Stmt) -> Result<(), Refusal>
     ensures ok { OnOk result (threads.new ≡ scripted threads.old s) }
     ensures err { IfErr result (λ e. e ≡ Refusal.Memory) }
@@ -122,7 +122,7 @@ fn add_part(alloc: Global, draft: &mut Draft, line: BoardLine) -> Result<(), Ref
     Ok(())
 }
 
-#[tactic(auto, unfolding(rt_plain::specs::LineTable::row))]
+#[tactic(auto, unfolding(rt_plain::specs::text::LineTable::row))]
 fn rank_of_line(line: &BoardLine) -> u8
     ensures { result ≡ (row (kind_of line.now)).rank }
 {

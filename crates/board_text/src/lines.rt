@@ -1,9 +1,9 @@
 //! One line, judged by the 14 reasons in their order.
 ghost use Rattle.std.specs.Prelude.{◌≡◌, ◌≤◌, length, map};
 ghost use Rattle.std.specs.List.{list_any};
-ghost use Rattle.rt_plain.specs.Splits.{is_empty};
-ghost use Rattle.rt_plain.specs.LineTable.{row};
-ghost use Rattle.rt_plain.specs.BoardText.{has_count, of_kind, of_words, judged};
+ghost use Rattle.rt_plain.specs.text.Splits.{is_empty};
+ghost use Rattle.rt_plain.specs.text.LineTable.{row};
+ghost use Rattle.rt_plain.specs.text.BoardText.{has_count, of_kind, of_words, judged};
 ghost use Rattle.board_text.specs.Gives.{Gives};
 ghost use Rattle.board_text.specs.Drafts.{so_far};
 
@@ -47,7 +47,7 @@ fn of_kind(alloc: Global, draft: &Draft, words: &[&[u8]], kind: Kind) -> Result<
     }
 }
 
-#[tactic(auto, using(rt_plain::proofs::SplitLemmas::any_here, rt_plain::proofs::SplitLemmas::any_more, rt_plain::proofs::SplitLemmas::any_none))]
+#[tactic(auto, using(rt_plain::proofs::text::SplitLemmas::any_here, rt_plain::proofs::text::SplitLemmas::any_more, rt_plain::proofs::text::SplitLemmas::any_none))]
 fn has_empty(words: &[&[u8]]) -> bool
     ensures { result ≡ list_any is_empty (map (λ w. w.now) words.now) }
 {
@@ -60,7 +60,7 @@ fn has_empty(words: &[&[u8]]) -> bool
 }
 
 /// Reasons 3 to 14.
-#[tactic(auto, unfolding(rt_plain::specs::BoardText::of_words))]
+#[tactic(auto, unfolding(rt_plain::specs::text::BoardText::of_words))]
 fn of_words(
     alloc: Global,
     draft: &Draft,
@@ -82,7 +82,7 @@ fn of_words(
 }
 
 /// What a line says, or the first reason that holds.
-#[tactic(auto, unfolding(rt_plain::specs::BoardText::judged))]
+#[tactic(auto, unfolding(rt_plain::specs::text::BoardText::judged))]
 pub(crate) fn judged(alloc: Global, draft: &Draft, line: &[u8]) -> Result<BoardLine, Refusal>
     requires low { 2 ≤ draft.now.levels }
     requires high { draft.now.levels ≤ 256 }

@@ -1,11 +1,11 @@
 //! What may stand where.
 ghost use Rattle.std.specs.Prelude.{◌≡◌, ◌≤◌, ◌==◌, ◌&&◌, length, bytes_eq};
 ghost use Rattle.std.specs.List.{list_any};
-ghost use Rattle.rt_plain.specs.LineTable.{row};
-ghost use Rattle.rt_plain.specs.LpClock.{moment_after_counts};
-ghost use Rattle.rt_plain.specs.Opening.{arrival_moment};
-ghost use Rattle.rt_plain.specs.TimerKinds.{is_soft, is_timer_call, is_timer_statement};
-ghost use Rattle.rt_plain.specs.BoardText.{is_out_of_order, limit_place, is_class_passed, is_limit_passed, is_twice, last_length, thread_limit, is_full, last_count, is_beyond, is_event_beyond, is_schedule_beyond, is_barred, has_device, is_astray, placed, shell_name, soft_name, console_name};
+ghost use Rattle.rt_plain.specs.text.LineTable.{row};
+ghost use Rattle.rt_plain.specs.kernel.LpClock.{moment_after_counts};
+ghost use Rattle.rt_plain.specs.kernel.Opening.{arrival_moment};
+ghost use Rattle.rt_plain.specs.kernel.TimerKinds.{is_soft, is_timer_call, is_timer_statement};
+ghost use Rattle.rt_plain.specs.text.BoardText.{is_out_of_order, limit_place, is_class_passed, is_limit_passed, is_twice, last_length, thread_limit, is_full, last_count, is_beyond, is_event_beyond, is_schedule_beyond, is_barred, has_device, is_astray, placed, shell_name, soft_name, console_name};
 ghost use Rattle.board_text.specs.Drafts.{so_far, board_of};
 
 use crate::draft::Draft;
@@ -187,7 +187,7 @@ fn is_twice(draft: &Draft, line: &BoardLine) -> bool
 
 // ---- room
 
-#[tactic(auto, using(rt_plain::proofs::BoardLemmas::last_script))]
+#[tactic(auto, using(rt_plain::proofs::text::BoardLemmas::last_script))]
 fn last_length(threads: &[ThreadDef]) -> usize
     ensures { result ≡ last_length threads.now }
 {
@@ -224,7 +224,7 @@ fn is_full(draft: &Draft, line: &BoardLine) -> bool
 
 // ---- references
 
-#[tactic(auto, using(rt_plain::proofs::BoardLemmas::last_arrival))]
+#[tactic(auto, using(rt_plain::proofs::text::BoardLemmas::last_arrival))]
 fn last_count(arrivals: &[Arrival]) -> u32
     ensures { result ≡ last_count arrivals.now }
 {

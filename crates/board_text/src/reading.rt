@@ -1,8 +1,8 @@
 //! Reading a board, line by line.
 ghost use Rattle.std.specs.Prelude.{◌≡◌, ◌≤◌, ◌<◌, ◌+◌, ◌∷◌, length, take, drop, OnOk, IfOk, IfErr, IsTrue, not, Ok, Err, Some};
 ghost use Rattle.rt_plain.specs.PlainBoard.{PlainBoard};
-ghost use Rattle.rt_plain.specs.Splits.{lines_of};
-ghost use Rattle.rt_plain.specs.BoardText.{judged, after, is_skipped, IsBoard, Bad, first_bad, reading};
+ghost use Rattle.rt_plain.specs.text.Splits.{lines_of};
+ghost use Rattle.rt_plain.specs.text.BoardText.{judged, after, is_skipped, IsBoard, Bad, first_bad, reading};
 ghost use Rattle.rt_plain.specs.declared.board_line.BoardLine.{BoardLine as LineSaid};
 ghost use Rattle.board_text.specs.Gives.{Fails};
 ghost use Rattle.board_text.specs.Drafts.{so_far};
@@ -28,7 +28,7 @@ fn is_skipped(line: &[u8]) -> bool
 }
 
 /// Where the first line ends.
-#[tactic(auto, using(rt_plain::proofs::SplitLemmas::line_at, rt_plain::proofs::SplitLemmas::last_line, rt_plain::proofs::SplitLemmas::unbroken_more))]
+#[tactic(auto, using(rt_plain::proofs::text::SplitLemmas::line_at, rt_plain::proofs::text::SplitLemmas::last_line, rt_plain::proofs::text::SplitLemmas::unbroken_more))]
 fn line_end(rest: &[u8]) -> usize
     requires { 0 < length rest.now }
     ensures within { result ≤ length rest.now }

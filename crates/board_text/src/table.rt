@@ -1,7 +1,7 @@
 //! The table of statements and lines, and reading by it.
 ghost use Rattle.std.specs.Prelude.{◌≡◌, ◌≤◌, ◌-◌, bytes_eq, length, map};
-ghost use Rattle.rt_plain.specs.StatementTable.{statement_word, statement_count, statement_named, statement_in, all_statements};
-ghost use Rattle.rt_plain.specs.LineTable.{row, all_lines, line_named, kind_named, line_in, said_in};
+ghost use Rattle.rt_plain.specs.text.StatementTable.{statement_word, statement_count, statement_named, statement_in, all_statements};
+ghost use Rattle.rt_plain.specs.text.LineTable.{row, all_lines, line_named, kind_named, line_in, said_in};
 ghost use Rattle.rt_plain.specs.declared.kind.Kind.{Kind as AnyKind};
 ghost use Rattle.board_text.specs.Gives.{Gives};
 
@@ -144,7 +144,7 @@ macro_rules! read_statement {
 }
 
 /// What the words of a statement of a kind say.
-#[tactic(auto, unfolding(rt_plain::specs::StatementTable::statement_in))]
+#[tactic(auto, unfolding(rt_plain::specs::text::StatementTable::statement_in))]
 pub(crate) fn read_statement(
     kind: StatementKind,
     words: &[&[u8]],
@@ -174,7 +174,7 @@ macro_rules! read_line {
 }
 
 /// What the words of another line of a kind say.
-#[tactic(auto, unfolding(rt_plain::specs::LineTable::line_in))]
+#[tactic(auto, unfolding(rt_plain::specs::text::LineTable::line_in))]
 fn read_line(
     alloc: Global,
     kind: LineKind,
@@ -189,7 +189,7 @@ fn read_line(
 }
 
 /// What the words of a line or a statement line of a kind say.
-#[tactic(auto, unfolding(rt_plain::specs::LineTable::said_in))]
+#[tactic(auto, unfolding(rt_plain::specs::text::LineTable::said_in))]
 pub(crate) fn read_said(
     alloc: Global,
     kind: Kind,
@@ -239,7 +239,7 @@ macro_rules! statement_word {
 }
 
 /// The word of a statement.
-#[tactic(auto, unfolding(rt_plain::specs::StatementTable::statement_word))]
+#[tactic(auto, unfolding(rt_plain::specs::text::StatementTable::statement_word))]
 fn statement_word(kind: StatementKind) -> &'static [u8]
     ensures { result.now ≡ statement_word kind }
 {
@@ -258,7 +258,7 @@ macro_rules! line_word {
 }
 
 /// The first word of a line.
-#[tactic(auto, unfolding(rt_plain::specs::LineTable::row))]
+#[tactic(auto, unfolding(rt_plain::specs::text::LineTable::row))]
 fn line_word(kind: LineKind) -> &'static [u8]
     ensures { result.now ≡ (row (AnyKind.Line kind)).word }
 {
@@ -277,7 +277,7 @@ macro_rules! line_rank {
 }
 
 /// The rank of a line.
-#[tactic(auto, unfolding(rt_plain::specs::LineTable::row))]
+#[tactic(auto, unfolding(rt_plain::specs::text::LineTable::row))]
 pub(crate) fn line_rank(kind: LineKind) -> u8
     ensures { result ≡ (row (AnyKind.Line kind)).rank }
 {
@@ -285,7 +285,7 @@ pub(crate) fn line_rank(kind: LineKind) -> u8
 }
 
 /// The rank of a line or a statement line.
-#[tactic(auto, unfolding(rt_plain::specs::LineTable::row))]
+#[tactic(auto, unfolding(rt_plain::specs::text::LineTable::row))]
 pub(crate) fn rank_of(kind: Kind) -> u8
     ensures { result ≡ (row kind).rank }
 {
@@ -296,7 +296,7 @@ pub(crate) fn rank_of(kind: Kind) -> u8
 }
 
 /// Whether it is a statement line.
-#[tactic(auto, unfolding(rt_plain::specs::LineTable::row))]
+#[tactic(auto, unfolding(rt_plain::specs::text::LineTable::row))]
 pub(crate) fn is_statement(kind: Kind) -> bool
     ensures { result ≡ (row kind).indented }
 {
@@ -317,7 +317,7 @@ macro_rules! line_tail {
     };
 }
 
-#[tactic(auto, unfolding(rt_plain::specs::LineTable::row))]
+#[tactic(auto, unfolding(rt_plain::specs::text::LineTable::row))]
 fn line_tail(kind: LineKind) -> Tail
     ensures { result ≡ (row (AnyKind.Line kind)).tail }
 {
@@ -325,7 +325,7 @@ fn line_tail(kind: LineKind) -> Tail
 }
 
 /// What stands behind the fields of a line or a statement line.
-#[tactic(auto, unfolding(rt_plain::specs::LineTable::row))]
+#[tactic(auto, unfolding(rt_plain::specs::text::LineTable::row))]
 pub(crate) fn tail_of(kind: Kind) -> Tail
     ensures { result ≡ (row kind).tail }
 {
@@ -353,7 +353,7 @@ macro_rules! statement_count {
 }
 
 /// How many fields a statement has.
-#[tactic(auto, unfolding(rt_plain::specs::StatementTable::statement_count))]
+#[tactic(auto, unfolding(rt_plain::specs::text::StatementTable::statement_count))]
 pub(crate) fn statement_count(kind: StatementKind) -> usize
     ensures count { result ≡ statement_count kind }
     ensures few { result ≤ 6 }
@@ -375,7 +375,7 @@ macro_rules! line_count {
     };
 }
 
-#[tactic(auto, unfolding(rt_plain::specs::LineTable::row))]
+#[tactic(auto, unfolding(rt_plain::specs::text::LineTable::row))]
 fn line_count(kind: LineKind) -> usize
     ensures count { result ≡ length (row (AnyKind.Line kind)).fields }
     ensures few { result ≤ 6 }
@@ -384,7 +384,7 @@ fn line_count(kind: LineKind) -> usize
 }
 
 /// How many fields a line or a statement line has.
-#[tactic(auto, unfolding(rt_plain::specs::LineTable::row, rt_plain::specs::StatementTable::statement_count))]
+#[tactic(auto, unfolding(rt_plain::specs::text::LineTable::row, rt_plain::specs::text::StatementTable::statement_count))]
 pub(crate) fn field_count(kind: Kind) -> usize
     ensures count { result ≡ length (row kind).fields }
     ensures few { result ≤ 6 }
@@ -403,7 +403,7 @@ macro_rules! every_statement {
     };
 }
 
-#[tactic(auto, unfolding(rt_plain::specs::StatementTable::all_statements))]
+#[tactic(auto, unfolding(rt_plain::specs::text::StatementTable::all_statements))]
 fn every_statement() -> [StatementKind; 48]
     ensures { result ≡ all_statements }
 {
@@ -429,7 +429,7 @@ pub(crate) fn statement_named(given: &[u8]) -> Option<StatementKind>
     None
 }
 
-#[tactic(auto, unfolding(rt_plain::specs::LineTable::all_lines))]
+#[tactic(auto, unfolding(rt_plain::specs::text::LineTable::all_lines))]
 fn every_line() -> [LineKind; 25]
     ensures { result ≡ all_lines }
 {
@@ -476,7 +476,7 @@ fn line_named(given: &[u8]) -> Option<LineKind>
 }
 
 /// The kind of a line, by its indent and its first word.
-#[tactic(auto, unfolding(rt_plain::specs::LineTable::kind_named))]
+#[tactic(auto, unfolding(rt_plain::specs::text::LineTable::kind_named))]
 pub(crate) fn kind_named(indented: bool, given: &[u8]) -> Option<Kind>
     ensures { result ≡ kind_named indented given.now }
 {

@@ -1,9 +1,9 @@
 //! What stands behind the fields of a line: a limit, a schedule, a timer's call.
 ghost use Rattle.std.specs.Prelude.{◌≡◌, ◌≤◌, length, map, drop, decimal};
-ghost use Rattle.rt_plain.specs.Fields.{result_map};
-ghost use Rattle.rt_plain.specs.FieldLists.{both};
-ghost use Rattle.rt_plain.specs.Tails.{limit_named, limit_top, limit_of, event_in, events_in, schedule_in, timer_call_in, is_counted_schedule, is_counted_statement, is_counted_call, is_counted};
-ghost use Rattle.rt_plain.specs.LineTable.{line_in};
+ghost use Rattle.rt_plain.specs.text.Fields.{result_map};
+ghost use Rattle.rt_plain.specs.text.FieldLists.{both};
+ghost use Rattle.rt_plain.specs.text.Tails.{limit_named, limit_top, limit_of, event_in, events_in, schedule_in, timer_call_in, is_counted_schedule, is_counted_statement, is_counted_call, is_counted};
+ghost use Rattle.rt_plain.specs.text.LineTable.{line_in};
 ghost use Rattle.rt_plain.specs.declared.kind.LineKind.TheVariants as line;
 ghost use Rattle.board_text.specs.Gives.{Gives};
 
@@ -114,7 +114,7 @@ fn limit_of(class: Option<LimitClass>, word: &[u8]) -> Result<(LimitClass, u16),
 }
 
 /// The line of a limit.
-#[tactic(auto, unfolding(rt_plain::specs::LineTable::line_in))]
+#[tactic(auto, unfolding(rt_plain::specs::text::LineTable::line_in))]
 pub(crate) fn read_limit(words: &[&[u8]]) -> Result<BoardLine, Refusal>
     ensures { Gives result (line_in 0 (map (λ w. w.now) words.now) line.Limit) }
 {
@@ -148,7 +148,7 @@ fn event_of(word: &[u8]) -> Result<Event, Why>
     }
 }
 
-#[tactic(auto, using(rt_plain::proofs::TailLemmas::events_on, rt_plain::proofs::TailLemmas::events_stop, rt_plain::proofs::TailLemmas::events_end, rt_plain::proofs::TailLemmas::fronted_none))]
+#[tactic(auto, using(rt_plain::proofs::text::TailLemmas::events_on, rt_plain::proofs::text::TailLemmas::events_stop, rt_plain::proofs::text::TailLemmas::events_end, rt_plain::proofs::text::TailLemmas::fronted_none))]
 fn read_events(alloc: Global, words: &[&[u8]]) -> Result<List<Event>, Refusal>
     ensures { Gives result (events_in (map (λ w. w.now) words.now)) }
 {
@@ -184,7 +184,7 @@ fn schedule_of(alloc: Global, words: &[&[u8]]) -> Result<Schedule, Refusal>
 }
 
 /// The line of the schedule.
-#[tactic(auto, unfolding(rt_plain::specs::LineTable::line_in))]
+#[tactic(auto, unfolding(rt_plain::specs::text::LineTable::line_in))]
 pub(crate) fn read_schedule(alloc: Global, words: &[&[u8]]) -> Result<BoardLine, Refusal>
     ensures { Gives result (line_in 0 (map (λ w. w.now) words.now) line.Schedule) }
 {
@@ -228,7 +228,7 @@ fn timer_values(
 }
 
 /// The line of a timer.
-#[tactic(auto, unfolding(rt_plain::specs::LineTable::line_in))]
+#[tactic(auto, unfolding(rt_plain::specs::text::LineTable::line_in))]
 pub(crate) fn read_timer(words: &[&[u8]], levels: u16) -> Result<BoardLine, Refusal>
     requires levels_low { 2 ≤ levels }
     requires levels_high { levels ≤ 256 }

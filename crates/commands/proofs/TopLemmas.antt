@@ -3,9 +3,9 @@ use Rattle.std.proofs.Common.{◌≡◌, ◌⊎◌, inl, inr, ℕ, List, Option,
 use Rattle.rt_base.specs.declared.codes.Halt.{Halt}
 use Rattle.rt_edge.specs.Contents.{Names}
 use Rattle.rt_plain.specs.PlainBoard.{PlainBoard}
-use Rattle.rt_plain.specs.BoardText.{IsBoard, first_bad}
-use Rattle.rt_plain.specs.Commands.{Command}
-use Rattle.rt_plain.specs.Ends.{run_of}
+use Rattle.rt_plain.specs.text.BoardText.{IsBoard, first_bad}
+use Rattle.rt_plain.specs.runs.Commands.{Command}
+use Rattle.rt_plain.specs.runs.Ends.{run_of}
 use Rattle.kernel_step.specs.Built.{is_built}
 use Rattle.commands.specs.Boards.{IsRun, IsShow, IsBoardFile, IsBuiltFile, IsTooLong, HasBadLine, IsRefused, IsUnbuilt, IsUnbuiltRun, IsText, IsRunText, IsOver, IsOverRun, Halts, Stops, HasText}
 use Rattle.commands.specs.Asked.{IfAsked, IsMissing, AsksFor, HasWritten, HasBegun, HasCause}

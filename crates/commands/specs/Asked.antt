@@ -1,7 +1,7 @@
 -- What the words ask for, and how that ends.
 use Rattle.std.specs.Prelude.{◌≡◌, ℕ, List, take, Option, Some, None}
 use Rattle.rt_edge.specs.Contents.{Names, IsAbsent, HasGrown}
-use Rattle.rt_plain.specs.Commands.{Command}
+use Rattle.rt_plain.specs.runs.Commands.{Command}
 use Rattle.commands.specs.Words.{file_of}
 use Rattle.commands.specs.Held.{IfHeld, IsHeld, IsLacked, Steady}
 use Rattle.commands.specs.Boards.{IsText, IsTooLong, HasBadLine, IsUnbuiltRun, IsOverRun}

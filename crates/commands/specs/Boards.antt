@@ -1,11 +1,11 @@
 -- What a command makes of the board of a file.
 use Rattle.std.specs.Prelude.{◌≡◌, ◌⊎◌, ◌<◌, ◌≤◌, ℕ, List, Some, false, true, length, IsSome}
 use Rattle.rt_plain.specs.PlainBoard.{PlainBoard}
-use Rattle.rt_plain.specs.BoardText.{IsBoard, first_bad}
-use Rattle.rt_plain.specs.Canon.{canonical_text}
-use Rattle.rt_plain.specs.Commands.{Command, run_text, console_text}
-use Rattle.rt_plain.specs.Ends.{run_of}
-use Rattle.rt_plain.specs.Runs.{Course}
+use Rattle.rt_plain.specs.text.BoardText.{IsBoard, first_bad}
+use Rattle.rt_plain.specs.text.Canon.{canonical_text}
+use Rattle.rt_plain.specs.runs.Commands.{Command, run_text, console_text}
+use Rattle.rt_plain.specs.runs.Ends.{run_of}
+use Rattle.rt_plain.specs.runs.Runs.{Course}
 use Rattle.rt_plain.specs.declared.why.Why.{Why}
 use Rattle.kernel_step.specs.Built.{is_built}
 use Rattle.kernel_step.specs.Ends.{IsLimited, HasCompleted}

@@ -3,7 +3,7 @@ use Rattle.std.specs.Prelude.{ℕ, List, [], ◌∷◌, Option, Some, None, code
 use Rattle.std.specs.declared.alloc.Global.{Global}
 use Rattle.std.specs.Str.{bytes_eq}
 use Rattle.std.specs.Option.{option_map_or}
-use Rattle.rt_plain.specs.Commands.{Command}
+use Rattle.rt_plain.specs.runs.Commands.{Command}
 use Rattle.commands.specs.declared.words.Command.{Command as Asked}
 use Rattle.commands.specs.declared.words.Command.TheVariants.{Trace, Run, Show}
 

@@ -1,7 +1,7 @@
 ghost use Rattle.std.specs.Prelude.{◌≡◌, ◌≤◌, IfOk, IfErr, None, length};
-ghost use Rattle.rt_plain.specs.Commands.{run_text, console_text};
-ghost use Rattle.rt_plain.specs.Ends.{end_of};
-ghost use Rattle.rt_plain.specs.Texts.{trace_text, console_of};
+ghost use Rattle.rt_plain.specs.runs.Commands.{run_text, console_text};
+ghost use Rattle.rt_plain.specs.runs.Ends.{end_of};
+ghost use Rattle.rt_plain.specs.text.Texts.{trace_text, console_of};
 ghost use Rattle.journal.specs.Ending.{ending};
 ghost use Rattle.commands.specs.Words.{plain};
 ghost use Rattle.commands.specs.Boards.{IsBoardFile, HasRun, IsRunText, IsShown, IsText, IsCauseOf, IsNoBoard, IsNoRun};

@@ -6,7 +6,7 @@ use lib.ListN.{get_elem?}
 use Rattle.atomic_table.specs.Table.{opening, Final, Seen}
 use Rattle.atomic_table.proofs.Lists.{at_map}
 use Rattle.rt_base.specs.declared.codes.Event.{Event}
-use Rattle.rt_plain.specs.Logs.{Continues}
+use Rattle.rt_plain.specs.runs.Logs.{Continues}
 use Rattle.cpus_lock.specs.declared.knows.Knows.{Knows}
 use Rattle.cpus_lock.specs.declared.nested.Nested.{Ghosts}
 use Rattle.cpus_lock.specs.Passes.{AreOwnersBelow, IsNestBelow}

@@ -6,7 +6,7 @@ use Rattle.std.proofs.lemmas.List.Elements.{All-append, All-nil, All-cons, All-h
 use Rattle.std.proofs.lemmas.List.FromFn.{map-range_with_len_more, get_or-map-range_with_len, length-map-range_with_len}
 use Rattle.atomic_table.specs.Seated.{TableId}
 use Rattle.rt_base.specs.declared.codes.Event.{Event}
-use Rattle.rt_plain.specs.Logs.{Continues, ContinuesPass}
+use Rattle.rt_plain.specs.runs.Logs.{Continues, ContinuesPass}
 use Rattle.cpus_lock.specs.declared.knows.Knows.{Knows}
 use Rattle.cpus_lock.specs.declared.knows.Kept.{Kept}
 use Rattle.cpus_lock.specs.declared.nested.Nested.{Ghosts}

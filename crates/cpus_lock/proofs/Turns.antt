@@ -7,8 +7,8 @@ use prog.Atomic.{either}
 use Rattle.atomic_table.specs.Table.{State, step, stepped, Act, keeps, takes, gives, Valid, carried_after, Allows}
 use Rattle.atomic_table.proofs.Lists.{at_set, set_here, set_else, exchanged, at_map}
 use Rattle.rt_base.specs.declared.codes.Event.{Event}
-use Rattle.rt_plain.specs.Live.{owner}
-use Rattle.rt_plain.specs.Logs.{Continues}
+use Rattle.rt_plain.specs.runs.Live.{owner}
+use Rattle.rt_plain.specs.runs.Logs.{Continues}
 use Rattle.cpus_lock.specs.declared.knows.Knows.{Knows}
 use Rattle.cpus_lock.specs.declared.knows.Kept.{Kept}
 use Rattle.cpus_lock.specs.declared.nested.Nested.{Ghosts}

@@ -1,6 +1,6 @@
 -- How deep the lock over all cores is held.
 use Rattle.std.specs.Prelude.{ℕ, Option, Some, None, if◌then◌else◌, ◌==◌}
-use Rattle.rt_plain.specs.State.{Nest}
+use Rattle.rt_plain.specs.kernel.State.{Nest}
 
 -- how deep a core holds it: 0 where it doesn't
 abbrev pub depth_of : ℕ → Option Nest → ℕ

@@ -3,8 +3,8 @@ use Rattle.std.specs.Prelude.{◌≡◌, ◌⊎◌, ℕ, ◌+◌, ◌<◌, List,
 use Rattle.std.specs.List.{All, Contains, range_with_len}
 use Rattle.atomic_table.specs.Seated.{TableId}
 use Rattle.rt_base.specs.declared.codes.Event.{Event}
-use Rattle.rt_plain.specs.Live.{owner}
-use Rattle.rt_plain.specs.Logs.{PassView}
+use Rattle.rt_plain.specs.runs.Live.{owner}
+use Rattle.rt_plain.specs.runs.Logs.{PassView}
 
 -- which lock it is, and for how many cores
 pub record Lock : Type 0 where

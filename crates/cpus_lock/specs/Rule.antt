@@ -4,7 +4,7 @@ use mathlib.Core.Option.{Option as Place, some, none}
 use lib.ListN.{get_elem?}
 use Rattle.atomic_table.specs.Table.{State, Me, Step}
 use Rattle.rt_base.specs.declared.codes.Event.{Event}
-use Rattle.rt_plain.specs.Logs.{Continues}
+use Rattle.rt_plain.specs.runs.Logs.{Continues}
 use Rattle.cpus_lock.specs.declared.knows.Knows.{Knows}
 use Rattle.cpus_lock.specs.declared.knows.Kept.{Kept}
 use Rattle.cpus_lock.specs.declared.nested.Nested.{Ghosts}

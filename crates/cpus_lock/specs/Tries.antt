@@ -1,7 +1,7 @@
 -- What a try to enter answers.
 use Rattle.std.specs.Prelude.{◌≡◌, ◌≢◌, ◌<◌, ◌+◌, true, false}
-use Rattle.rt_plain.specs.State.{is_nest_of_other}
-use Rattle.rt_plain.specs.Logs.{ContinuesPass}
+use Rattle.rt_plain.specs.kernel.State.{is_nest_of_other}
+use Rattle.rt_plain.specs.runs.Logs.{ContinuesPass}
 use Rattle.cpus_lock.specs.Depths.{nest_of}
 use Rattle.cpus_lock.specs.Passes.{LockPass, tried, AreOwnersBelow, IsNestBelow}
 use Rattle.cpus_lock.specs.Holds.{Hold}

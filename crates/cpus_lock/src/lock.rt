@@ -1,7 +1,7 @@
 ghost use Rattle.std.specs.Prelude.{◌≡◌, ◌≤◌, IfOk, IfErr};
 ghost use Rattle.std.specs.List.{All, Contains};
-ghost use Rattle.rt_plain.specs.Live.{owner};
-ghost use Rattle.rt_plain.specs.Logs.{ContinuesPass};
+ghost use Rattle.rt_plain.specs.runs.Live.{owner};
+ghost use Rattle.rt_plain.specs.runs.Logs.{ContinuesPass};
 ghost use Rattle.cpus_lock.specs.Passes.{AreOwnersBelow, IsNestBelow, AreAllPasses, LockPass, first_passes, cores_of};
 
 use crate::nested::Nested;

@@ -1,6 +1,6 @@
 ghost use Rattle.std.specs.Prelude.{◌≡◌, ◌+◌, ◌-◌, ◌<◌, ◌==◌, false, Some, None, IfSome, if◌then◌else◌};
-ghost use Rattle.rt_plain.specs.State.{is_nest_of, is_nest_of_other};
-ghost use Rattle.rt_plain.specs.ThreadCalls.{nest_at};
+ghost use Rattle.rt_plain.specs.kernel.State.{is_nest_of, is_nest_of_other};
+ghost use Rattle.rt_plain.specs.kernel.ThreadCalls.{nest_at};
 ghost use Rattle.cpus_lock.specs.Depths.{depth_of, holder_of};
 
 use rt_base::{Code, CoreNo};
@@ -16,7 +16,7 @@ pub struct Nest {
 impl Model for Nest {
     ghost use Rattle.std.specs.Prelude.{Option, ◌<◌};
     ghost use Rattle.std.specs.Option.{ForSome};
-    ghost use Rattle.rt_plain.specs.State.{Nest as PlainNest};
+    ghost use Rattle.rt_plain.specs.kernel.State.{Nest as PlainNest};
     ghost use Rattle.cpus_lock.specs.Depths.{nest_of};
 
     ghost Value = { Option PlainNest };

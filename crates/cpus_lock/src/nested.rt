@@ -1,6 +1,6 @@
 ghost use Rattle.std.specs.Prelude.{◌≡◌, ℕ, List, Option};
 ghost use Rattle.rt_base.specs.declared.codes.Event.{Event};
-ghost use Rattle.rt_plain.specs.State.{is_nest_of_other};
+ghost use Rattle.rt_plain.specs.kernel.State.{is_nest_of_other};
 ghost use Rattle.cpus_lock.specs.Depths.{nest_of};
 
 use rt_base::CoreNo;

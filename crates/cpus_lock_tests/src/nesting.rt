@@ -1,5 +1,5 @@
 ghost use Rattle.std.specs.Prelude.{◌≡◌, not};
-ghost use Rattle.rt_plain.specs.State.{is_nest_of_other};
+ghost use Rattle.rt_plain.specs.kernel.State.{is_nest_of_other};
 
 use cpus_lock::Nest;
 use rand_core::SeedableRng;

@@ -4,8 +4,8 @@ use Rattle.std.specs.Prelude.{slice_get, filter, fold, bit_and, bit_or, IfSome}
 use Rattle.std.proofs.lemmas.Grind.{fold-append}
 use Rattle.std.proofs.lemmas.List.{append_assoc, append-nil, length-map, length_push, map_push, nil_from_length}
 use Rattle.std.proofs.lemmas.Option.{slice_get_within, none-some, same_Some, slice_get-get_or}
-use Rattle.rt_plain.specs.Waiting.{head_of}
-use Rattle.rt_plain.specs.EventCalls.{Want as PlainWant, Wanting, is_satisfied, flags_after, satisfied_waiters, flags_left}
+use Rattle.rt_plain.specs.kernel.Waiting.{head_of}
+use Rattle.rt_plain.specs.kernel.EventCalls.{Want as PlainWant, Wanting, is_satisfied, flags_after, satisfied_waiters, flags_left}
 use Rattle.susp_list.specs.declared.row.Row.{Row}
 use Rattle.susp_list.specs.Rows.{Waits, line, holds, is_waiting}
 use Rattle.ipc_counts.specs.declared.want.Want.{Want}

@@ -1,6 +1,6 @@
 -- What an event object, a receiver's want and the woken threads are for contracts.
 use Rattle.std.specs.Prelude.{ℕ, List}
-use Rattle.rt_plain.specs.EventCalls.{Want as PlainWant}
+use Rattle.rt_plain.specs.kernel.EventCalls.{Want as PlainWant}
 use Rattle.susp_list.specs.Rows.{Waits}
 use Rattle.ipc_counts.specs.declared.want.Want.{Want}
 

@@ -1,6 +1,6 @@
 -- What a release does.
 use Rattle.std.specs.Prelude.{ℕ, ◌≡◌, ◌≢◌, ◌+◌, Some, None, slice_set}
-use Rattle.rt_plain.specs.Waiting.{first_of}
+use Rattle.rt_plain.specs.kernel.Waiting.{first_of}
 use Rattle.susp_list.specs.Rows.{Waits, waiters}
 use Rattle.ipc_counts.specs.Counted.{Counted}
 use Rattle.ipc_counts.specs.declared.sem.SemReleased.{SemReleased}

@@ -1,6 +1,6 @@
 -- What a send does.
 use Rattle.std.specs.Prelude.{ℕ, true, false, List, [], ◌∷◌, Option, Some, None, map, slice_get, slice_set, bit_and, bit_or}
-use Rattle.rt_plain.specs.EventCalls.{Want as PlainWant, Wanting, satisfied_waiters, flags_left}
+use Rattle.rt_plain.specs.kernel.EventCalls.{Want as PlainWant, Wanting, satisfied_waiters, flags_left}
 use Rattle.susp_list.specs.Rows.{line}
 use Rattle.susp_list.specs.declared.row.Row.{Row}
 use Rattle.ipc_counts.specs.declared.want.Want.{Want}

@@ -1,6 +1,6 @@
 ghost use Rattle.std.specs.Prelude.{ℕ, ◌≡◌, ◌<◌, ◌≤◌, None, false, List, ◌∷◌, ◌++◌, length, replicate, bit_and, bit_or, is_some, slice_get, slice_set, IfOk, IfSome, IfNone, IsTrue};
-ghost use Rattle.rt_plain.specs.Waiting.{first_of};
-ghost use Rattle.rt_plain.specs.EventCalls.{is_satisfied, flags_after};
+ghost use Rattle.rt_plain.specs.kernel.Waiting.{first_of};
+ghost use Rattle.rt_plain.specs.kernel.EventCalls.{is_satisfied, flags_after};
 ghost use Rattle.susp_list.specs.Rows.{waiters, line, holds, with_prio};
 ghost use Rattle.susp_list.specs.declared.row.Row.{Row};
 ghost use Rattle.ipc_counts.specs.Released.{without};

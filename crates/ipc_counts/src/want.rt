@@ -1,5 +1,5 @@
 ghost use Rattle.std.specs.Prelude.{◌≡◌};
-ghost use Rattle.rt_plain.specs.EventCalls.{is_satisfied, flags_after};
+ghost use Rattle.rt_plain.specs.kernel.EventCalls.{is_satisfied, flags_after};
 ghost use Rattle.ipc_counts.specs.Flags.{plain_want};
 
 /// Which flags a receiver wants.

@@ -6,7 +6,7 @@ use Rattle.std.proofs.lemmas.Result.{on_ok_weaker}
 use Rattle.std.proofs.lemmas.Bool.{eqb-true}
 use Rattle.rt_base.specs.Codes.{code_number}
 use Rattle.rt_base.specs.declared.codes.Code.{Code}
-use Rattle.rt_plain.specs.Words.{code_text}
+use Rattle.rt_plain.specs.text.Words.{code_text}
 
 -- the spelling by the number
 abbrev spelled : ℕ → List ℕ

@@ -6,9 +6,9 @@ use Rattle.std.proofs.lemmas.List.{take_rest}
 use Rattle.rt_plain.specs.declared.entry.Cut.{Cut}
 use Rattle.rt_plain.specs.declared.entry.Entry.{Entry}
 use Rattle.rt_plain.specs.declared.line.Line.{Line}
-use Rattle.rt_plain.specs.Words.{words}
-use Rattle.rt_plain.specs.Texts.{cut_text, body_text, entries_text}
-use Rattle.rt_plain.proofs.SplitLemmas.{words-joined_words}
+use Rattle.rt_plain.specs.text.Words.{words}
+use Rattle.rt_plain.specs.text.Texts.{cut_text, body_text, entries_text}
+use Rattle.rt_plain.proofs.text.SplitLemmas.{words-joined_words}
 use Rattle.journal.specs.declared.header.Header.{Header}
 use Rattle.journal.specs.Headers.{entries_of, lines_in}
 use Rattle.journal.proofs.HeaderLemmas.{entries-before, entries-behind}

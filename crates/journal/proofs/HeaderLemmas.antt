@@ -8,9 +8,9 @@ use Rattle.std.proofs.lemmas.List.Sums.{sum_by-cons, sum_by-take-drop}
 use Rattle.std.proofs.lemmas.Grind.{common_steps, flat_map-append}
 use Rattle.rt_plain.specs.declared.line.Line.{Line}
 use Rattle.rt_plain.specs.declared.entry.Entry.{Entry}
-use Rattle.rt_plain.specs.Runs.{line_count}
-use Rattle.rt_plain.specs.Texts.{printed_by, console_of}
-use Rattle.rt_plain.specs.TraceRows.{CanShow, CanStand, CanBeWritten}
+use Rattle.rt_plain.specs.runs.Runs.{line_count}
+use Rattle.rt_plain.specs.text.Texts.{printed_by, console_of}
+use Rattle.rt_plain.specs.text.TraceRows.{CanShow, CanStand, CanBeWritten}
 use Rattle.journal.specs.Seen.{IsEntryAt, lines_of}
 use Rattle.journal.specs.declared.header.Header.{Header}
 use Rattle.journal.specs.Headers.{entries_of, lines_in, StandFrom, CanHead}

@@ -3,7 +3,7 @@ use Rattle.std.specs.Prelude.{ℕ, Option, Some, None}
 use Rattle.std.proofs.Common.{Bor}
 use Rattle.rt_base.specs.declared.codes.Halt.{Halt}
 use Rattle.rt_plain.specs.declared.entry.Cut.{Cut}
-use Rattle.rt_plain.specs.Texts.{End}
+use Rattle.rt_plain.specs.text.Texts.{End}
 
 -- the halt and its tick, by their names
 abbrev pub ending : Option (Halt × ℕ) → Option End

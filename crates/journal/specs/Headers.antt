@@ -2,7 +2,7 @@
 use Rattle.std.specs.Prelude.{◌≡◌, ◌+◌, ◌-◌, ◌^◌, ◌<◌, ℕ, List, [], ◌∷◌, take, drop, sum_by, min}
 use Rattle.rt_plain.specs.declared.entry.Entry.{Entry}
 use Rattle.rt_plain.specs.declared.line.Line.{Line}
-use Rattle.rt_plain.specs.TraceRows.{CanHappen}
+use Rattle.rt_plain.specs.text.TraceRows.{CanHappen}
 use Rattle.journal.specs.declared.header.Header.{Header}
 
 -- each header has the next lines

@@ -3,7 +3,7 @@ use Rattle.std.specs.Prelude.{◌≡◌, ℕ, List, Option, length, take, flat_m
 use Rattle.rt_base.specs.declared.codes.Event.{Event}
 use Rattle.rt_plain.specs.declared.entry.Entry.{Entry}
 use Rattle.rt_plain.specs.declared.line.Line.{Line}
-use Rattle.rt_plain.specs.Runs.{line_count}
+use Rattle.rt_plain.specs.runs.Runs.{line_count}
 
 -- the entries, and for how many more entries and lines there is room
 pub record JournalSeen : Type 0 where

@@ -1,5 +1,5 @@
 ghost use Rattle.std.specs.Prelude.{◌≡◌, ◌++◌, IfOk, OnOk, flat_map};
-ghost use Rattle.rt_plain.specs.Texts.{printed_by, console_of};
+ghost use Rattle.rt_plain.specs.text.Texts.{printed_by, console_of};
 
 use crate::Journal;
 use rt_base::List;

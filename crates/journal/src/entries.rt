@@ -1,7 +1,7 @@
 ghost use Rattle.std.specs.Prelude.{◌≡◌, ◌+◌, ◌<◌, ◌≤◌, ◌++◌, [], ◌∷◌, length, slice_get, Some, OnOk, OnErr};
-ghost use Rattle.rt_plain.specs.Runs.{line_count};
-ghost use Rattle.rt_plain.specs.Texts.{body_text, console_of};
-ghost use Rattle.rt_plain.specs.TraceRows.{CanBeWritten, StandsIn};
+ghost use Rattle.rt_plain.specs.runs.Runs.{line_count};
+ghost use Rattle.rt_plain.specs.text.Texts.{body_text, console_of};
+ghost use Rattle.rt_plain.specs.text.TraceRows.{CanBeWritten, StandsIn};
 ghost use Rattle.journal.specs.Ending.{cut_of};
 ghost use Rattle.journal.specs.Seen.{IsEntryAt, lines_of};
 
@@ -33,7 +33,7 @@ impl Model for Journal {
     ghost Value = { JournalSeen };
 
     ghost use Rattle.std.specs.Prelude.{All};
-    ghost use Rattle.rt_plain.specs.TraceRows.{CanShow};
+    ghost use Rattle.rt_plain.specs.text.TraceRows.{CanShow};
     ghost use Rattle.journal.specs.Headers.{entries_of, lines_in, StandFrom, CanHead, room_left};
 
     ghost view = { λ j. record {

@@ -1,8 +1,8 @@
 //! Laws of texts: each is the contract of a function that changes nothing.
 ghost use Rattle.std.specs.Prelude.{◌≡◌, ◌<◌, ◌^◌};
-ghost use Rattle.rt_plain.specs.Texts.{trace_text};
-ghost use Rattle.rt_plain.specs.Runs.{events_of};
-ghost use Rattle.rt_plain.specs.TraceRows.{StandsIn, IsTrace, CanCount, CanEnd, HasCores, events_told};
+ghost use Rattle.rt_plain.specs.text.Texts.{trace_text};
+ghost use Rattle.rt_plain.specs.runs.Runs.{events_of};
+ghost use Rattle.rt_plain.specs.text.TraceRows.{StandsIn, IsTrace, CanCount, CanEnd, HasCores, events_told};
 ghost use Rattle.journal.specs.Ending.{cut_of, ending};
 
 use crate::Journal;

@@ -1,7 +1,7 @@
 //! The events of a trace, read back from its text.
 ghost use Rattle.std.specs.Prelude.{◌≡◌, ◌<◌, ◌+◌, [], ◌∷◌, length, take, drop, map, MatchOption, IfOk};
-ghost use Rattle.rt_plain.specs.Fields.{result_map};
-ghost use Rattle.rt_plain.specs.TraceRows.{Counted, are_counts, counts_in, end_in, events_told, halt_in, header_in, moment_of, number_behind, outer_said, row_of_words, told_by, told_of_row, whole_lines_of};
+ghost use Rattle.rt_plain.specs.text.Fields.{result_map};
+ghost use Rattle.rt_plain.specs.text.TraceRows.{Counted, are_counts, counts_in, end_in, events_told, halt_in, header_in, moment_of, number_behind, outer_said, row_of_words, told_by, told_of_row, whole_lines_of};
 
 use crate::rows::shown;
 use rt_base::{CoreNo, Event, Halt, List};
@@ -12,7 +12,7 @@ use rt_plain::words::{are_printable, behind, behind_indent, is_indented, words_o
 use std::alloc::{AllocError, Global};
 
 // A number behind a byte.
-#[tactic(auto, using(rt_plain::proofs::TraceLemmas::behind_byte, rt_plain::proofs::TraceLemmas::behind_other))]
+#[tactic(auto, using(rt_plain::proofs::text::TraceLemmas::behind_byte, rt_plain::proofs::text::TraceLemmas::behind_other))]
 fn number_behind(byte: u8, high: u32, word: &[u8]) -> Result<u32, Why>
     ensures { result ≡ number_behind byte high word.now }
 {
@@ -84,7 +84,7 @@ fn counts_in(words: &[&[u8]]) -> Result<(), Why>
 }
 
 // What a `cut` line tells: nothing, where it has a number for each of 1 to 8 cores.
-#[tactic(auto, using(rt_plain::proofs::TraceLemmas::cut_no_number, rt_plain::proofs::TraceLemmas::cut_with_cores, rt_plain::proofs::TraceLemmas::cut_without_cores))]
+#[tactic(auto, using(rt_plain::proofs::text::TraceLemmas::cut_no_number, rt_plain::proofs::text::TraceLemmas::cut_with_cores, rt_plain::proofs::text::TraceLemmas::cut_without_cores))]
 fn cut_told(words: &[&[u8]]) -> Result<Option<Event>, Why>
     ensures { result ≡ told_of_row (result_map (λ counts. Counted counts) (counts_in (drop 1 (map (λ w. w.now) words.now)))) }
 {
@@ -135,7 +135,7 @@ fn told(alloc: Global, line: &[u8]) -> Result<Result<Option<Event>, Why>, AllocE
 }
 
 // Where the first line ends, if a newline ends it.
-#[tactic(auto, using(rt_plain::proofs::TraceLemmas::whole_line_at, rt_plain::proofs::TraceLemmas::no_whole_line, rt_plain::proofs::SplitLemmas::unbroken_more))]
+#[tactic(auto, using(rt_plain::proofs::text::TraceLemmas::whole_line_at, rt_plain::proofs::text::TraceLemmas::no_whole_line, rt_plain::proofs::text::SplitLemmas::unbroken_more))]
 fn line_end(rest: &[u8]) -> Option<usize>
     ensures { MatchOption result (whole_lines_of rest.now ≡ []) (λ i. (i < length rest.now) × (whole_lines_of rest.now ≡ take i rest.now ∷ whole_lines_of (drop (i + 1) rest.now))) }
 {
@@ -150,7 +150,7 @@ fn line_end(rest: &[u8]) -> Option<usize>
 /// The events of the header lines of a trace's text, in order, up to the first line that has no form of a trace. A
 /// number of a line has a form where its type has room for it. What stands behind the last newline is no line. The one
 /// refusal is want of memory.
-#[tactic(auto, using(rt_plain::proofs::TraceLemmas::events_more, rt_plain::proofs::TraceLemmas::events_same, rt_plain::proofs::TraceLemmas::events_stop, rt_plain::proofs::TraceLemmas::events_end))]
+#[tactic(auto, using(rt_plain::proofs::text::TraceLemmas::events_more, rt_plain::proofs::text::TraceLemmas::events_same, rt_plain::proofs::text::TraceLemmas::events_stop, rt_plain::proofs::text::TraceLemmas::events_end))]
 pub fn read_events(alloc: Global, text: &[u8]) -> Result<List<Event>, AllocError>
     ensures { IfOk result (λ events. events ≡ events_told text.now) }
 {

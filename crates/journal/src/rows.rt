@@ -1,9 +1,9 @@
 //! The lines of a trace's entries, read by a table.
 ghost use Rattle.std.specs.Prelude.{◌≡◌, ◌≤◌, bytes_eq, length, map};
-ghost use Rattle.rt_plain.specs.TraceRows.{trace_form, trace_word, trace_count, trace_named, all_trace_kinds, line_made, line_in, shown_in};
-ghost use Rattle.rt_plain.specs.FieldLists.{values_in, ended};
+ghost use Rattle.rt_plain.specs.text.TraceRows.{trace_form, trace_word, trace_count, trace_named, all_trace_kinds, line_made, line_in, shown_in};
+ghost use Rattle.rt_plain.specs.text.FieldLists.{values_in, ended};
 ghost use Rattle.rt_plain.specs.declared.kind.TraceKind.{TraceKind as Lines};
-ghost use Rattle.rt_plain.specs.BoardText.{first_of};
+ghost use Rattle.rt_plain.specs.text.BoardText.{first_of};
 
 use rt_base::{Code, Name};
 use rt_plain::fields::{
@@ -92,7 +92,7 @@ fn again(values: Stated) -> Line
 }
 
 // What the words of a line of a kind say.
-#[tactic(auto, unfolding(rt_plain::specs::TraceRows::line_in))]
+#[tactic(auto, unfolding(rt_plain::specs::text::TraceRows::line_in))]
 fn read_line(kind: TraceKind, words: &[&[u8]]) -> Result<Line, Why>
     ensures { result ≡ line_in (map (λ w. w.now) words.now) kind }
 {
@@ -110,7 +110,7 @@ macro_rules! trace_word {
     };
 }
 
-#[tactic(auto, unfolding(rt_plain::specs::TraceRows::trace_word))]
+#[tactic(auto, unfolding(rt_plain::specs::text::TraceRows::trace_word))]
 fn trace_word(kind: TraceKind) -> &'static [u8]
     ensures { result.now ≡ trace_word kind }
 {
@@ -132,7 +132,7 @@ macro_rules! trace_count {
 }
 
 // How many fields a line has.
-#[tactic(auto, unfolding(rt_plain::specs::TraceRows::trace_count))]
+#[tactic(auto, unfolding(rt_plain::specs::text::TraceRows::trace_count))]
 fn trace_count(kind: TraceKind) -> usize
     ensures count { result ≡ trace_count kind }
     ensures few { result ≤ 3 }
@@ -140,7 +140,7 @@ fn trace_count(kind: TraceKind) -> usize
     trace_rows!(trace_count kind)
 }
 
-#[tactic(auto, unfolding(rt_plain::specs::TraceRows::all_trace_kinds))]
+#[tactic(auto, unfolding(rt_plain::specs::text::TraceRows::all_trace_kinds))]
 fn every_kind() -> [TraceKind; 20]
     ensures { result ≡ all_trace_kinds }
 {

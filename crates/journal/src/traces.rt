@@ -1,7 +1,7 @@
 ghost use Rattle.std.specs.Prelude.{◌≡◌, ◌+◌, ◌^◌, ◌≤◌, ◌<◌, ◌++◌, ◌∷◌, length, take, flat_map, decimal, Some, IfOk, OnOk};
-ghost use Rattle.rt_plain.specs.Words.{halt_text};
-ghost use Rattle.rt_plain.specs.Texts.{header, with_newline, cut_text, body_text, end_text, entries_text, trace_text};
-ghost use Rattle.rt_plain.specs.TraceRows.{StandsIn};
+ghost use Rattle.rt_plain.specs.text.Words.{halt_text};
+ghost use Rattle.rt_plain.specs.text.Texts.{header, with_newline, cut_text, body_text, end_text, entries_text, trace_text};
+ghost use Rattle.rt_plain.specs.text.TraceRows.{StandsIn};
 ghost use Rattle.journal.specs.Headers.{entries_of, lines_in, StandFrom};
 ghost use Rattle.journal.specs.Ending.{cut_of, ending};
 

@@ -1,8 +1,8 @@
 ghost use Rattle.std.specs.Prelude.{◌≡◌, ◌++◌, ◌<◌, [], ◌∷◌, OnOk, false, codes, if◌then◌else◌};
 ghost use Rattle.std.specs.Fmt.{decimal, digit_glyph};
 ghost use Rattle.std.specs.List.{flat_map};
-ghost use Rattle.rt_plain.specs.Words.{words, code_text, sleep_text};
-ghost use Rattle.rt_plain.specs.Texts.{escape_of, quoted_text, code_or_wait, woke_text, fired_text, line_text, indented_line};
+ghost use Rattle.rt_plain.specs.text.Words.{words, code_text, sleep_text};
+ghost use Rattle.rt_plain.specs.text.Texts.{escape_of, quoted_text, code_or_wait, woke_text, fired_text, line_text, indented_line};
 
 use itoa::Buffer;
 use rt_base::{Code, List, Name, Prio, Sleep, Text};

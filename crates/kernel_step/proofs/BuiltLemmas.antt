@@ -3,7 +3,7 @@ use Rattle.std.proofs.Common.{◌≡◌, ℕ, ◌+◌, ◌*◌, ◌≤◌, ◌&&
 use Rattle.rt_base.specs.declared.codes.Sleep.{Sleep}
 use Rattle.rt_plain.specs.declared.board.Schedule.{Schedule}
 use Rattle.rt_plain.specs.PlainBoard.{PlainBoard}
-use Rattle.rt_plain.specs.Runs.{room}
+use Rattle.rt_plain.specs.runs.Runs.{room}
 use Rattle.rt_kernel.specs.Built.{is_built as is_built_for_kernel, IsBuilt as IsBuiltForKernel}
 use Rattle.kernel_step.specs.Built.{is_built, IsBuilt, is_awake, is_round}
 

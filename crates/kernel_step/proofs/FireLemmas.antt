@@ -3,12 +3,12 @@ use Rattle.std.proofs.Common.{◌≡◌, ℕ, zero, suc, ◌+◌, ◌*◌, ◌<�
 use Rattle.std.proofs.lemmas.List.{append-nil, append_assoc}
 use Rattle.rt_plain.specs.declared.line.Line.{Line}
 use Rattle.rt_plain.specs.PlainBoard.{PlainBoard}
-use Rattle.rt_plain.specs.State.{State, ArmedRow, Alarm, OfThread}
-use Rattle.rt_plain.specs.Effects.{Effect}
-use Rattle.rt_plain.specs.Calls.{settled_effect}
-use Rattle.rt_plain.specs.Due.{due, due_rows_effect, timeout_effect}
-use Rattle.rt_plain.specs.Ticks.{alarms_effect}
-use Rattle.rt_plain.specs.Schedules.{is_sleep}
+use Rattle.rt_plain.specs.kernel.State.{State, ArmedRow, Alarm, OfThread}
+use Rattle.rt_plain.specs.kernel.Effects.{Effect}
+use Rattle.rt_plain.specs.kernel.Calls.{settled_effect}
+use Rattle.rt_plain.specs.kernel.Due.{due, due_rows_effect, timeout_effect}
+use Rattle.rt_plain.specs.kernel.Ticks.{alarms_effect}
+use Rattle.rt_plain.specs.runs.Schedules.{is_sleep}
 use Rattle.rt_kernel.specs.Seen.{KernelSeen}
 use Rattle.rt_kernel.specs.Due.{first_alarm, taken}
 use Rattle.kernel_step.specs.Firing.{IsFiring, rest_effect}

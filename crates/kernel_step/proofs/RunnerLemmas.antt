@@ -7,15 +7,15 @@ use Rattle.rt_base.specs.declared.codes.Halt.{Halt}
 use Rattle.rt_plain.specs.declared.board.Schedule.{Schedule}
 use Rattle.rt_plain.specs.declared.entry.Entry.{Entry}
 use Rattle.rt_plain.specs.PlainBoard.{PlainBoard}
-use Rattle.rt_plain.specs.State.{State, Nest}
-use Rattle.rt_plain.specs.Sleeps.{Did, Made, Same, Halted}
-use Rattle.rt_plain.specs.Ticks.{tick_effect}
-use Rattle.rt_plain.specs.Steps.{happens}
-use Rattle.rt_plain.specs.Opening.{open_state}
-use Rattle.rt_plain.specs.Runs.{Course, after, opened, course_after, course_unless, is_over, entry_tick, line_count, IsCompleteIn}
-use Rattle.rt_plain.specs.Ends.{run_of}
+use Rattle.rt_plain.specs.kernel.State.{State, Nest}
+use Rattle.rt_plain.specs.kernel.Sleeps.{Did, Made, Same, Halted}
+use Rattle.rt_plain.specs.kernel.Ticks.{tick_effect}
+use Rattle.rt_plain.specs.kernel.Steps.{happens}
+use Rattle.rt_plain.specs.kernel.Opening.{open_state}
+use Rattle.rt_plain.specs.runs.Runs.{Course, after, opened, course_after, course_unless, is_over, entry_tick, line_count, IsCompleteIn}
+use Rattle.rt_plain.specs.runs.Ends.{run_of}
 use Rattle.std.proofs.lemmas.List.Elements.{All-nil}
-use Rattle.rt_plain.specs.Schedules.{most_turns, Driven, moved, turns, driven, begun, is_stopped, is_sleep_of, state_after, rounds, round_count, closing_event, place_unless_slept, place_after_closing, IsDriveable, IsScheduled}
+use Rattle.rt_plain.specs.runs.Schedules.{most_turns, Driven, moved, turns, driven, begun, is_stopped, is_sleep_of, state_after, rounds, round_count, closing_event, place_unless_slept, place_after_closing, IsDriveable, IsScheduled}
 use Rattle.kernel_step.specs.Seen.{MachineSeen, limit_of}
 use Rattle.kernel_step.specs.Built.{IsBuilt}
 use Rattle.kernel_step.specs.Ends.{place_of, stands, turns_left, IsOnWay, IsLimited, HasCompleted}

@@ -8,18 +8,18 @@ use Rattle.rt_base.specs.declared.codes.Sleep.{Sleep}
 use Rattle.rt_plain.specs.declared.line.Line.{Line}
 use Rattle.rt_plain.specs.declared.stmt.Stmt.{Stmt}
 use Rattle.rt_plain.specs.PlainBoard.{PlainBoard}
-use Rattle.rt_plain.specs.State.{State, Retry, Arriving, thread_at, running_on, is_nest_of_other, Device, Nest}
-use Rattle.rt_plain.specs.Pick.{pick}
-use Rattle.rt_plain.specs.Effects.{Effect}
-use Rattle.rt_plain.specs.Statements.{statement_effect, script_effect, is_soft_thread, script_of, statement_at, done_effect, with_next}
-use Rattle.rt_plain.specs.Shell.{shell_effect}
-use Rattle.rt_plain.specs.SoftTurn.{soft_effect}
-use Rattle.rt_plain.specs.Calls.{settled_effect}
-use Rattle.rt_plain.specs.Schedules.{is_sleep}
-use Rattle.rt_plain.specs.DeviceCalls.{is_sending}
-use Rattle.rt_plain.specs.PowerCalls.{sleep_mode, voted_mode}
-use Rattle.rt_plain.specs.Sleeps.{Did, Made, Same, Halted, is_empty, rest_did, halting_rest_did, awake_rest_did, final_halt, stops_ticks, sleep_length, sleep_did}
-use Rattle.rt_plain.specs.Steps.{happens, core_did, free_core_did, busy_core_did, is_all_idle, did_of_effect, is_preemptible, takes_from, without_mark, unhalted_step_did}
+use Rattle.rt_plain.specs.kernel.State.{State, Retry, Arriving, thread_at, running_on, is_nest_of_other, Device, Nest}
+use Rattle.rt_plain.specs.kernel.Pick.{pick}
+use Rattle.rt_plain.specs.kernel.Effects.{Effect}
+use Rattle.rt_plain.specs.kernel.Statements.{statement_effect, script_effect, is_soft_thread, script_of, statement_at, done_effect, with_next}
+use Rattle.rt_plain.specs.kernel.Shell.{shell_effect}
+use Rattle.rt_plain.specs.kernel.SoftTurn.{soft_effect}
+use Rattle.rt_plain.specs.kernel.Calls.{settled_effect}
+use Rattle.rt_plain.specs.runs.Schedules.{is_sleep}
+use Rattle.rt_plain.specs.kernel.DeviceCalls.{is_sending}
+use Rattle.rt_plain.specs.kernel.PowerCalls.{sleep_mode, voted_mode}
+use Rattle.rt_plain.specs.kernel.Sleeps.{Did, Made, Same, Halted, is_empty, rest_did, halting_rest_did, awake_rest_did, final_halt, stops_ticks, sleep_length, sleep_did}
+use Rattle.rt_plain.specs.kernel.Steps.{happens, core_did, free_core_did, busy_core_did, is_all_idle, did_of_effect, is_preemptible, takes_from, without_mark, unhalted_step_did}
 use Rattle.rt_kernel.specs.Seen.{IsAlone}
 use Rattle.kernel_step.specs.declared.did.Did.{Did as Answer}
 use Rattle.kernel_step.specs.declared.did.Did.TheVariants.{Halted as Answered, Same as Stayed}

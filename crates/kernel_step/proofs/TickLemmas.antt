@@ -6,11 +6,11 @@ use Rattle.rt_base.specs.declared.codes.Event.{Event}
 use Rattle.rt_base.specs.declared.codes.Halt.{Halt}
 use Rattle.rt_plain.specs.declared.line.Line.{Line}
 use Rattle.rt_plain.specs.PlainBoard.{PlainBoard}
-use Rattle.rt_plain.specs.State.{State, Arriving, Device, Nest}
-use Rattle.rt_plain.specs.Effects.{Effect, and_then, no_effect}
-use Rattle.rt_plain.specs.Ticks.{next_tick_state, alarms_effect, deliveries, transmissions, with_until_halt, tick_effect}
-use Rattle.rt_plain.specs.Sleeps.{Made, Same}
-use Rattle.rt_plain.specs.Steps.{happens, unhalted_tick_did, did_of_effect}
+use Rattle.rt_plain.specs.kernel.State.{State, Arriving, Device, Nest}
+use Rattle.rt_plain.specs.kernel.Effects.{Effect, and_then, no_effect}
+use Rattle.rt_plain.specs.kernel.Ticks.{next_tick_state, alarms_effect, deliveries, transmissions, with_until_halt, tick_effect}
+use Rattle.rt_plain.specs.kernel.Sleeps.{Made, Same}
+use Rattle.rt_plain.specs.kernel.Steps.{happens, unhalted_tick_did, did_of_effect}
 use Rattle.rt_kernel.specs.Seen.{IsAlone, KernelSeen}
 use Rattle.kernel_step.specs.declared.engine.Engine.{Engine}
 use Rattle.kernel_step.specs.Whole.{state_of}

@@ -3,10 +3,10 @@ use Rattle.std.specs.Prelude.{◌≡◌, ◌+◌, ◌-◌, ◌*◌, ◌≤◌, �
 use Rattle.rt_base.specs.declared.codes.Halt.{Halt}
 use Rattle.rt_plain.specs.declared.board.Schedule.{Schedule}
 use Rattle.rt_plain.specs.PlainBoard.{PlainBoard}
-use Rattle.rt_plain.specs.Runs.{Course, is_over, line_count, IsComplete}
-use Rattle.rt_plain.specs.Ends.{run_of}
-use Rattle.rt_plain.specs.Shown.{shown}
-use Rattle.rt_plain.specs.Schedules.{Place, Driven, turns, driven, begun, is_stopped, words_of_seed}
+use Rattle.rt_plain.specs.runs.Runs.{Course, is_over, line_count, IsComplete}
+use Rattle.rt_plain.specs.runs.Ends.{run_of}
+use Rattle.rt_plain.specs.kernel.Shown.{shown}
+use Rattle.rt_plain.specs.runs.Schedules.{Place, Driven, turns, driven, begun, is_stopped, words_of_seed}
 use Rattle.kernel_step.specs.Seen.{MachineSeen}
 use Rattle.kernel_step.specs.Built.{IsBuilt}
 use Rattle.kernel_step.specs.declared.runner.RunFault.{RunFault}

@@ -2,11 +2,11 @@
 use Rattle.std.specs.Prelude.{◌≡◌, ◌+◌, ◌*◌, ◌≤◌, ◌++◌, ℕ, List, length, false}
 use Rattle.rt_plain.specs.declared.line.Line.{Line}
 use Rattle.rt_plain.specs.PlainBoard.{PlainBoard}
-use Rattle.rt_plain.specs.State.{State}
-use Rattle.rt_plain.specs.Effects.{Effect}
-use Rattle.rt_plain.specs.Due.{due, due_rows_effect}
-use Rattle.rt_plain.specs.Ticks.{alarms_effect}
-use Rattle.rt_plain.specs.Schedules.{is_sleep}
+use Rattle.rt_plain.specs.kernel.State.{State}
+use Rattle.rt_plain.specs.kernel.Effects.{Effect}
+use Rattle.rt_plain.specs.kernel.Due.{due, due_rows_effect}
+use Rattle.rt_plain.specs.kernel.Ticks.{alarms_effect}
+use Rattle.rt_plain.specs.runs.Schedules.{is_sleep}
 use Rattle.rt_kernel.specs.Seen.{KernelSeen}
 
 -- the rows that are still due fire, at most so many

@@ -3,9 +3,9 @@ use Rattle.std.specs.Prelude.{ℕ, Option, Some, None, length, is_some, not, ◌
 use Rattle.rt_base.specs.declared.codes.Halt.{Halt}
 use Rattle.rt_base.specs.declared.codes.Event.{Event}
 use Rattle.rt_plain.specs.PlainBoard.{PlainBoard}
-use Rattle.rt_plain.specs.Sleeps.{Did as Happened, Made, Same as Nothing, Halted as Ended}
-use Rattle.rt_plain.specs.Steps.{happens}
-use Rattle.rt_plain.specs.Runs.{Course, is_over, line_count}
+use Rattle.rt_plain.specs.kernel.Sleeps.{Did as Happened, Made, Same as Nothing, Halted as Ended}
+use Rattle.rt_plain.specs.kernel.Steps.{happens}
+use Rattle.rt_plain.specs.runs.Runs.{Course, is_over, line_count}
 use Rattle.kernel_step.specs.declared.did.Did.{Did}
 use Rattle.kernel_step.specs.declared.did.Did.TheVariants.{Entry as Entered, Same as Stayed, Halted}
 

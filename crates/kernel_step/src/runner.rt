@@ -1,8 +1,8 @@
 ghost use Rattle.std.specs.Prelude.{◌≡◌, ◌↔◌, ◌<◌, ◌≤◌, IfOk, IfErr, IsErrOf, IsSome, true, false, length};
 ghost use Rattle.rt_plain.specs.declared.board.Schedule.TheVariants.{Round};
-ghost use Rattle.rt_plain.specs.Runs.{is_over, opened};
-ghost use Rattle.rt_plain.specs.Schedules.{scheduled_course, moved, is_stopped};
-ghost use Rattle.rt_plain.specs.Ends.{run_of};
+ghost use Rattle.rt_plain.specs.runs.Runs.{is_over, opened};
+ghost use Rattle.rt_plain.specs.runs.Schedules.{scheduled_course, moved, is_stopped};
+ghost use Rattle.rt_plain.specs.runs.Ends.{run_of};
 ghost use Rattle.kernel_step.specs.Built.{is_built};
 ghost use Rattle.kernel_step.specs.Ends.{stands, turns_left, HasCompleted, MeetsLimit};
 ghost use Rattle.kernel_step.specs.declared.runner.RunFault.TheVariants.{Memory};

@@ -10,7 +10,7 @@ use Rattle.std.proofs.lemmas.List.Folds.{sum_by-replicate}
 use Rattle.std.proofs.lemmas.Nat.{mul-le}
 use Rattle.std.proofs.lemmas.Option.{slice_get_within, slice_get-get_or, get_or_from_slice_get, same_Some}
 use Rattle.std.proofs.lemmas.Bool.{false≢true, eqb-true, eq-eqb, ne_eqb, cond-true, cond-false, cases_eq, cases_lt, cases_Bool, lt-ltb, le-ltb}
-use Rattle.rt_plain.specs.Waiting.{first_of}
+use Rattle.rt_plain.specs.kernel.Waiting.{first_of}
 use Rattle.susp_list.specs.Rows.{Waits, waiters}
 use Rattle.mem_pool.specs.Bits.{IsLeast}
 use Rattle.mem_pool.specs.Frees.{IsBack, IsPassed, without}

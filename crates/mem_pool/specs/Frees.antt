@@ -1,6 +1,6 @@
 -- What giving a block back does.
 use Rattle.std.specs.Prelude.{ℕ, ◌≡◌, Some, None, slice_set}
-use Rattle.rt_plain.specs.Waiting.{first_of}
+use Rattle.rt_plain.specs.kernel.Waiting.{first_of}
 use Rattle.susp_list.specs.Rows.{Waits, waiters}
 use Rattle.mem_pool.specs.Pools.{PoolBlocks, last_block, place_of, with_block_freed, with_block_held}
 use Rattle.mem_pool.specs.declared.freed.Freed.{Freed}

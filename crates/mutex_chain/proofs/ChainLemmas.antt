@@ -6,10 +6,10 @@ use Rattle.std.specs.Option.{option_to_list}
 use Rattle.std.proofs.lemmas.Bool.{cases_eq, or_cases, or_left, or_right, and_from, false≢true, lt-ltb, le-ltb}
 use Rattle.std.proofs.lemmas.Option.{none-some}
 use Rattle.std.proofs.lemmas.List.Sums.{sum_by-cons}
-use Rattle.rt_plain.specs.State.{is_among}
-use Rattle.rt_plain.specs.Priority.{Graph, blocker_of}
-use Rattle.rt_plain.specs.Ownership.{Ownership, graph_in}
-use Rattle.rt_plain.specs.Weight.{chain_from, chain, weight_of, concerned_threads, moment_weight, edit_size}
+use Rattle.rt_plain.specs.kernel.State.{is_among}
+use Rattle.rt_plain.specs.kernel.Priority.{Graph, blocker_of}
+use Rattle.rt_plain.specs.kernel.Ownership.{Ownership, graph_in}
+use Rattle.rt_plain.specs.kernel.Weight.{chain_from, chain, weight_of, concerned_threads, moment_weight, edit_size}
 use Rattle.mutex_chain.specs.Owners.{IsSound, blocker_in}
 use Rattle.mutex_chain.specs.Raising.{LeadsTo}
 use Rattle.mutex_chain.proofs.ReachLemmas.{hits_on}

@@ -5,8 +5,8 @@ use Rattle.std.specs.List.{filter_map, range_with_len, cons_option}
 use Rattle.std.proofs.lemmas.Bool.{cases_lt, false≢true}
 use Rattle.std.proofs.lemmas.List.{get_or_past}
 use Rattle.std.proofs.lemmas.List.Elements.{All-get_or}
-use Rattle.rt_plain.specs.Priority.{urgency_of, reach}
-use Rattle.rt_plain.specs.Ownership.{Ownership, Member, CurChange, member_at, base_of, is_there, member_urgency, owned_in, graph_in, cur_in, change_at, changes}
+use Rattle.rt_plain.specs.kernel.Priority.{urgency_of, reach}
+use Rattle.rt_plain.specs.kernel.Ownership.{Ownership, Member, CurChange, member_at, base_of, is_there, member_urgency, owned_in, graph_in, cur_in, change_at, changes}
 use Rattle.mutex_chain.specs.Owners.{IsSound, IsSmall, has_thread}
 use Rattle.mutex_chain.specs.Walks.{curs_of}
 use Rattle.mutex_chain.specs.Graph.{Keeps, changed_at, listed_at}

@@ -8,8 +8,8 @@ use Rattle.std.proofs.lemmas.List.{get_or_past}
 use Rattle.std.proofs.lemmas.Bool.{cases_lt}
 use Rattle.std.proofs.lemmas.List.FromFn.{fill_by_all}
 use Rattle.std.proofs.lemmas.Option.{none-some}
-use Rattle.rt_plain.specs.Priority.{Graph, blocker_of, urgency_of, reach}
-use Rattle.rt_plain.specs.Ownership.{Ownership, Member, MutexWait, Taken, member_at, member_urgency, taken_of, owner_in, awaited_in, graph_in, cur_in}
+use Rattle.rt_plain.specs.kernel.Priority.{Graph, blocker_of, urgency_of, reach}
+use Rattle.rt_plain.specs.kernel.Ownership.{Ownership, Member, MutexWait, Taken, member_at, member_urgency, taken_of, owner_in, awaited_in, graph_in, cur_in}
 use Rattle.mutex_chain.specs.Owners.{IsSound, blocker_in}
 use Rattle.mutex_chain.specs.Walks.{all_carried, meets, urgencies_of, curs_of}
 use Rattle.mutex_chain.proofs.WalkLemmas.{all_carried_at, length-all_carried, meets_same}

@@ -5,8 +5,8 @@ use Rattle.std.specs.List.{filter_map, range_with_len, cons_option}
 use Rattle.std.specs.Option.{option_map, IfSome}
 use Rattle.std.proofs.lemmas.Option.{none-some}
 use Rattle.rt_base.specs.declared.codes.WaitOrder.{WaitOrder}
-use Rattle.rt_plain.specs.Waiting.{Waiter, stands_before, put_in_order, in_order, head_of}
-use Rattle.rt_plain.specs.Ownership.{Ownership, MutexWait, wait_of, wait_row, wait_rows_in}
+use Rattle.rt_plain.specs.kernel.Waiting.{Waiter, stands_before, put_in_order, in_order, head_of}
+use Rattle.rt_plain.specs.kernel.Ownership.{Ownership, MutexWait, wait_of, wait_row, wait_rows_in}
 use Rattle.mutex_chain.specs.Walks.{curs_of}
 use Rattle.mutex_chain.specs.Graph.{waiter_with, sooner_of}
 use Rattle.mutex_chain.proofs.CurLemmas.{cur_at}

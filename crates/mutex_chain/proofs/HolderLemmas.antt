@@ -6,7 +6,7 @@ use Rattle.std.specs.Option.{IfSome, option_map}
 use Rattle.std.proofs.Math.ListN.{length-set}
 use Rattle.std.proofs.lemmas.Bool.{eqb-true, ne_eqb, eq-eqb, cases_eq}
 use Rattle.std.proofs.lemmas.List.Elements.{All-head, All-tail}
-use Rattle.rt_plain.specs.Ownership.{Taken}
+use Rattle.rt_plain.specs.kernel.Ownership.{Taken}
 use Rattle.mutex_chain.specs.Owners.{AreHolders, with_hold}
 use Rattle.mutex_chain.proofs.CurLemmas.{found_has}
 use Rattle.mutex_chain.proofs.OwnerLemmas.{others}

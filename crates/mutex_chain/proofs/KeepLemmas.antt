@@ -5,7 +5,7 @@ use Rattle.std.specs.Option.{option_map}
 use Rattle.std.proofs.Math.ListN.{length-set}
 use Rattle.std.proofs.lemmas.Bool.{cases_lt, cases_eq, false≢true}
 use Rattle.std.proofs.lemmas.List.{get_or_past}
-use Rattle.rt_plain.specs.Ownership.{Ownership, Member, member_at, is_there, member_edit, with_member, with_wait, leave_edit, leave_edits, first_in, pass_edit_to, pass_edit, pass_edits, Taken, taken_of, with_taken_times, release_edit, release_edit_of}
+use Rattle.rt_plain.specs.kernel.Ownership.{Ownership, Member, member_at, is_there, member_edit, with_member, with_wait, leave_edit, leave_edits, first_in, pass_edit_to, pass_edit, pass_edits, Taken, taken_of, with_taken_times, release_edit, release_edit_of}
 use Rattle.mutex_chain.specs.Owners.{has_thread}
 use Rattle.mutex_chain.specs.Graph.{Keeps}
 

@@ -5,8 +5,8 @@ use Rattle.std.specs.List.{range_with_len}
 use Rattle.std.proofs.lemmas.Bool.{eqb-true, eq-eqb, false≢true, cases_lt, cases_Bool, or_cases, or_left, or_right}
 use Rattle.std.proofs.lemmas.Option.{none-some}
 use Rattle.std.proofs.lemmas.List.{get_or_past}
-use Rattle.rt_plain.specs.State.{is_among}
-use Rattle.rt_plain.specs.Priority.{Graph, blocker_of, urgency_of, is_one_of, reach, least, cur_of}
+use Rattle.rt_plain.specs.kernel.State.{is_among}
+use Rattle.rt_plain.specs.kernel.Priority.{Graph, blocker_of, urgency_of, is_one_of, reach, least, cur_of}
 use Rattle.mutex_chain.specs.Equations.{waits_for, IsSolution, SameBut, IsAway, IsTouched}
 use Rattle.mutex_chain.proofs.ReachLemmas.{hits, hits_on, hits_end, reach_hits, among_range}
 

@@ -7,8 +7,8 @@ use Rattle.std.proofs.lemmas.Bool.{cases_lt}
 use Rattle.std.proofs.lemmas.List.{get_or_past, at_drop_more, length-map}
 use Rattle.std.proofs.lemmas.List.Elements.{All-nil, All-cons}
 use Rattle.rt_base.specs.declared.codes.WaitOrder.{WaitOrder}
-use Rattle.rt_plain.specs.Waiting.{Waiter, stands_before, put_in_order, in_order, threads_in_order}
-use Rattle.rt_plain.specs.Ownership.{Ownership, Member, MutexWait, wait_of, wait_row, waiters_in, wait_rows_in, cur_in}
+use Rattle.rt_plain.specs.kernel.Waiting.{Waiter, stands_before, put_in_order, in_order, threads_in_order}
+use Rattle.rt_plain.specs.kernel.Ownership.{Ownership, Member, MutexWait, wait_of, wait_row, waiters_in, wait_rows_in, cur_in}
 use Rattle.std.specs.Option.{is_some, option_and_then}
 use Rattle.mutex_chain.specs.Walks.{curs_of}
 use Rattle.mutex_chain.specs.Graph.{waiter_with, row_in, goes_before, place_of}

@@ -8,9 +8,9 @@ use Rattle.std.proofs.lemmas.Option.{none-some}
 use Rattle.std.proofs.lemmas.Bool.{cases_eq, cases_lt, eq-eqb, ne_eqb, false≢true, or_left, or_right}
 use Rattle.std.proofs.lemmas.List.{get_or_past}
 use Rattle.rt_base.specs.declared.codes.WaitOrder.{WaitOrder}
-use Rattle.rt_plain.specs.State.{is_among}
-use Rattle.rt_plain.specs.Waiting.{Waiter, stands_before, put_in_order, in_order}
-use Rattle.rt_plain.specs.Ownership.{Ownership, Member, MutexWait, Taken, member_at, wait_of, awaited_in, taken_of, owner_in, owned_in, wait_row, waiters_in, wait_rows_in, first_in, with_member, with_wait, leave_edit, leave_edits, with_mutex_free, with_mutex_got, with_taken_times, take_edit, take_edit_of, pass_edit_to, pass_edit, pass_edits, release_edit, release_edit_of, kill_mutex_edit, kill_thread_edit}
+use Rattle.rt_plain.specs.kernel.State.{is_among}
+use Rattle.rt_plain.specs.kernel.Waiting.{Waiter, stands_before, put_in_order, in_order}
+use Rattle.rt_plain.specs.kernel.Ownership.{Ownership, Member, MutexWait, Taken, member_at, wait_of, awaited_in, taken_of, owner_in, owned_in, wait_row, waiters_in, wait_rows_in, first_in, with_member, with_wait, leave_edit, leave_edits, with_mutex_free, with_mutex_got, with_taken_times, take_edit, take_edit_of, pass_edit_to, pass_edit, pass_edits, release_edit, release_edit_of, kill_mutex_edit, kill_thread_edit}
 use Rattle.mutex_chain.specs.Owners.{AreOwned}
 use Rattle.mutex_chain.specs.Graph.{row_in}
 use Rattle.mutex_chain.proofs.OwnerLemmas.{others}

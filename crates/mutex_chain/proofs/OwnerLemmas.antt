@@ -5,7 +5,7 @@ use Rattle.std.specs.List.{AllPairs}
 use Rattle.std.proofs.lemmas.Bool.{eqb-true, eqb-false, ne_eqb}
 use Rattle.std.proofs.lemmas.List.Elements.{All-nil, All-cons, All-head, All-tail, All-filter}
 use Rattle.std.proofs.lemmas.List.Kept.{AllPairs-cons, AllPairs-filter}
-use Rattle.rt_plain.specs.Ownership.{Ownership, Taken, with_mutex_free, with_taken_times}
+use Rattle.rt_plain.specs.kernel.Ownership.{Ownership, Taken, with_mutex_free, with_taken_times}
 use Rattle.mutex_chain.specs.Owners.{IsSound, with_hold}
 
 -- rows but for those of a mutex

@@ -9,8 +9,8 @@ use Rattle.std.proofs.lemmas.Bool.{eq-eqb, ne_eqb, false≢true}
 use Rattle.std.proofs.lemmas.List.{length_push}
 use Rattle.std.proofs.lemmas.List.Kept.{AllPairs-filter}
 use Rattle.rt_base.specs.declared.codes.WaitOrder.{WaitOrder}
-use Rattle.rt_plain.specs.Waiting.{Waiter, head_of, in_order}
-use Rattle.rt_plain.specs.Ownership.{Ownership, Member, MutexWait, Taken, Pass, member_at, is_there, wait_row, owned_in, first_in, with_wait, pass_edit_to, pass_edit, pass_edits, passes_from, wait_rows_in}
+use Rattle.rt_plain.specs.kernel.Waiting.{Waiter, head_of, in_order}
+use Rattle.rt_plain.specs.kernel.Ownership.{Ownership, Member, MutexWait, Taken, Pass, member_at, is_there, wait_row, owned_in, first_in, with_wait, pass_edit_to, pass_edit, pass_edits, passes_from, wait_rows_in}
 use Rattle.mutex_chain.specs.Owners.{IsSound, has_thread}
 use Rattle.mutex_chain.specs.Graph.{PassList, pair_of, passed_to, row_in}
 use Rattle.mutex_chain.proofs.OwnerLemmas.{Apart, others, others_same, apart_head}

@@ -3,7 +3,7 @@ use Rattle.std.proofs.Common.{ℕ, ◌≡◌, ◌≢◌, ◌+◌, ◌<◌, ◌�
 use Rattle.std.specs.Prelude.{slice_set, slice_index, min, nat_lt}
 use Rattle.std.specs.List.{filter_map, range_with_len, cons_option, insert}
 use Rattle.std.proofs.lemmas.Bool.{cases_eq, eq-eqb, lt-ltb, le-ltb, false≢true}
-use Rattle.rt_plain.specs.Ownership.{Ownership, CurChange}
+use Rattle.rt_plain.specs.kernel.Ownership.{Ownership, CurChange}
 use Rattle.mutex_chain.specs.Owners.{has_thread}
 use Rattle.mutex_chain.specs.Graph.{changed_at, listed_at}
 use Rattle.mutex_chain.specs.Raising.{AreRaised, listed, place_among, put_change}

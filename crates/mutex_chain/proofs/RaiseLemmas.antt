@@ -5,7 +5,7 @@ use Rattle.std.proofs.Math.ListN.{length-set}
 use Rattle.std.proofs.lemmas.Bool.{cases_eq}
 use Rattle.std.proofs.lemmas.Option.{none-some}
 use Rattle.std.proofs.lemmas.List.FromFn.{fill_by_all}
-use Rattle.rt_plain.specs.Ownership.{Ownership, member_urgency, graph_in, cur_in}
+use Rattle.rt_plain.specs.kernel.Ownership.{Ownership, member_urgency, graph_in, cur_in}
 use Rattle.mutex_chain.specs.Owners.{IsSound, blocker_in}
 use Rattle.mutex_chain.specs.Walks.{curs_of}
 use Rattle.mutex_chain.specs.Raising.{IsRaising}

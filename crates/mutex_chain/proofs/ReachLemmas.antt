@@ -5,8 +5,8 @@ use Rattle.std.specs.List.{range_with_len}
 use Rattle.std.proofs.lemmas.Bool.{eqb-true, eqb-false, ne_eqb, cases_lt}
 use Rattle.std.proofs.lemmas.List.{get_or_past}
 use Rattle.std.proofs.lemmas.List.Elements.{filter_agree}
-use Rattle.rt_plain.specs.State.{is_among}
-use Rattle.rt_plain.specs.Priority.{Graph, blocker_of, is_one_of, round_of, rounds_of, reach}
+use Rattle.rt_plain.specs.kernel.State.{is_among}
+use Rattle.rt_plain.specs.kernel.Priority.{Graph, blocker_of, is_one_of, round_of, rounds_of, reach}
 use Rattle.mutex_chain.specs.Walks.{meets_on, meets}
 
 abbrev pub hits_on : (ℕ → Bool) → Option ℕ → Bool

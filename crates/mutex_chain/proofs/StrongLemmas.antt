@@ -7,9 +7,9 @@ use Rattle.std.proofs.Math.ListN.{length-set}
 use Rattle.std.proofs.lemmas.Bool.{cases_eq, cases_lt, eqb-true, ne_eqb, eq-eqb, false≢true, or_left, or_right}
 use Rattle.std.proofs.lemmas.Option.{none-some}
 use Rattle.std.proofs.lemmas.List.{get_or_past}
-use Rattle.rt_plain.specs.State.{is_among}
-use Rattle.rt_plain.specs.Priority.{urgency_of, reach}
-use Rattle.rt_plain.specs.Ownership.{Ownership, Member, Taken, member_at, base_of, is_there, awaited_in, owner_in, owned_in, member_urgency, graph_in, cur_in, with_base, with_wait, wait_edit, base_edit, ceiling_edit}
+use Rattle.rt_plain.specs.kernel.State.{is_among}
+use Rattle.rt_plain.specs.kernel.Priority.{urgency_of, reach}
+use Rattle.rt_plain.specs.kernel.Ownership.{Ownership, Member, Taken, member_at, base_of, is_there, awaited_in, owner_in, owned_in, member_urgency, graph_in, cur_in, with_base, with_wait, wait_edit, base_edit, ceiling_edit}
 use Rattle.mutex_chain.specs.Owners.{IsSound, has_thread, blocker_in, ceiling_at}
 use Rattle.mutex_chain.specs.Walks.{curs_of}
 use Rattle.mutex_chain.specs.Raising.{IsRaising, Strengthens}

@@ -6,7 +6,7 @@ use Rattle.std.specs.Option.{is_some, option_map, option_and_then}
 use Rattle.std.specs.Bool.{then_some}
 use Rattle.std.proofs.lemmas.Bool.{cases_eq, cases_lt, ne_eqb, eq-eqb, false≢true}
 use Rattle.std.proofs.lemmas.Option.{none-some}
-use Rattle.rt_plain.specs.Ownership.{Ownership, Taken, member_at, base_of, awaited_in, taken_of, owner_in, owned_in, member_urgency, with_mutex_got, with_taken_times, take_edit, take_edit_of, pass_edit, release_edit, release_edit_of}
+use Rattle.rt_plain.specs.kernel.Ownership.{Ownership, Taken, member_at, base_of, awaited_in, taken_of, owner_in, owned_in, member_urgency, with_mutex_got, with_taken_times, take_edit, take_edit_of, pass_edit, release_edit, release_edit_of}
 use Rattle.mutex_chain.specs.Owners.{IsSound, AreOwned, blocker_in, ceiling_at}
 use Rattle.mutex_chain.specs.Graph.{is_last}
 use Rattle.mutex_chain.specs.Equations.{Touches, IsTouched}

@@ -9,10 +9,10 @@ use Rattle.std.proofs.lemmas.List.{get_or_past}
 use Rattle.std.proofs.lemmas.Option.{none-some}
 use Rattle.std.proofs.lemmas.List.Elements.{All-head, All-tail}
 use Rattle.std.proofs.lemmas.List.Kept.{AllPairs-filter, AllPairs-cons}
-use Rattle.rt_plain.specs.State.{is_among}
-use Rattle.rt_plain.specs.Priority.{blocker_of, urgency_of, least}
-use Rattle.rt_plain.specs.Ownership.{Ownership, Member, Taken, member_at, base_of, taken_of, owner_in, owned_in, awaited_in, member_urgency, graph_in, cur_in, member_edit, take_edit, take_edit_of, with_taken_times, with_mutex_got, with_wait, leave_edit, first_in, pass_edit, pass_edit_to, release_edit, release_edit_of, ceiling_edit, kill_mutex_edit, leave_edits, with_mutex_free, waiters_in, with_member, passes_from, passes_of, pass_edits, kill_thread_edit}
-use Rattle.rt_plain.specs.Weight.{passed_by, release_touches, ceiling_touches, mutex_end_touches, end_touches}
+use Rattle.rt_plain.specs.kernel.State.{is_among}
+use Rattle.rt_plain.specs.kernel.Priority.{blocker_of, urgency_of, least}
+use Rattle.rt_plain.specs.kernel.Ownership.{Ownership, Member, Taken, member_at, base_of, taken_of, owner_in, owned_in, awaited_in, member_urgency, graph_in, cur_in, member_edit, take_edit, take_edit_of, with_taken_times, with_mutex_got, with_wait, leave_edit, first_in, pass_edit, pass_edit_to, release_edit, release_edit_of, ceiling_edit, kill_mutex_edit, leave_edits, with_mutex_free, waiters_in, with_member, passes_from, passes_of, pass_edits, kill_thread_edit}
+use Rattle.rt_plain.specs.kernel.Weight.{passed_by, release_touches, ceiling_touches, mutex_end_touches, end_touches}
 use Rattle.mutex_chain.specs.Owners.{blocker_in, with_hold, has_thread}
 use Rattle.mutex_chain.specs.Equations.{SameBut, IsAway, Touches, IsTouched}
 use Rattle.mutex_chain.proofs.OwnerLemmas.{Apart, others, others_same, apart_head, apart_tail, others_apart}

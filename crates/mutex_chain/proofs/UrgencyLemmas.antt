@@ -1,8 +1,8 @@
 -- A thread's own urgency, row by row.
 use Rattle.std.proofs.Common.{ℕ, List, map, Option, None}
 use Rattle.std.specs.Prelude.{filter, filter_map, slice_index_or, ◌==◌}
-use Rattle.rt_plain.specs.Priority.{least}
-use Rattle.rt_plain.specs.Ownership.{Taken}
+use Rattle.rt_plain.specs.kernel.Priority.{least}
+use Rattle.rt_plain.specs.kernel.Ownership.{Taken}
 
 -- the least of a number and the ceilings of those of these mutexes that a thread owns
 abbrev pub urgency_with : List (Option ℕ) → ℕ → ℕ → List Taken → ℕ

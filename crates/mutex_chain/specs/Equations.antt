@@ -1,9 +1,9 @@
 -- The equations of owners and waiters, and graphs that differ at some threads alone.
 use Rattle.std.specs.Prelude.{ℕ, ◌≡◌, ◌≢◌, ◌⊎◌, ◌<◌, true, false, List, [], ◌∷◌, length, map, filter, Option, Some, None}
 use Rattle.std.specs.List.{AllPairs, range_with_len}
-use Rattle.rt_plain.specs.State.{is_among}
-use Rattle.rt_plain.specs.Priority.{Graph, blocker_of, urgency_of, is_one_of, least, reach}
-use Rattle.rt_plain.specs.Ownership.{Ownership, member_urgency}
+use Rattle.rt_plain.specs.kernel.State.{is_among}
+use Rattle.rt_plain.specs.kernel.Priority.{Graph, blocker_of, urgency_of, is_one_of, least, reach}
+use Rattle.rt_plain.specs.kernel.Ownership.{Ownership, member_urgency}
 use Rattle.mutex_chain.specs.Owners.{blocker_in}
 
 -- the threads that wait for a thread

@@ -1,8 +1,8 @@
 -- What the calls of the graph answer, and the lists that they fill.
 use Rattle.std.specs.Prelude.{ℕ, suc, [], ◌∷◌, ◌++◌, ◌≡◌, ◌≢◌, ◌-◌, Bool, true, false, not, ◌&&◌, min, List, length, Option, Some, None, nat_lt, slice_index, if◌then◌else◌, ◌==◌}
 use Rattle.rt_base.specs.declared.codes.WaitOrder.{WaitOrder}
-use Rattle.rt_plain.specs.Waiting.{Waiter, stands_before}
-use Rattle.rt_plain.specs.Ownership.{Ownership, Taken, MutexWait, CurChange, Pass, wait_of, wait_row}
+use Rattle.rt_plain.specs.kernel.Waiting.{Waiter, stands_before}
+use Rattle.rt_plain.specs.kernel.Ownership.{Ownership, Taken, MutexWait, CurChange, Pass, wait_of, wait_row}
 use Rattle.mutex_chain.specs.declared.answers.Took.{Took}
 use Rattle.mutex_chain.specs.declared.answers.Released.{Released}
 use Rattle.mutex_chain.specs.Owners.{has_thread}

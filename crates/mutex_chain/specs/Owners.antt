@@ -2,7 +2,7 @@
 use Rattle.std.specs.Prelude.{ℕ, ◌≡◌, ◌≢◌, ◌<◌, Bool, true, false, List, length, Option, Some, None, All, slice_index_or, if◌then◌else◌, ◌==◌}
 use Rattle.std.specs.List.{AllPairs, find}
 use Rattle.std.specs.Option.{option_and_then, option_map}
-use Rattle.rt_plain.specs.Ownership.{Ownership, Member, Taken, member_at, is_there, owner_in, awaited_in}
+use Rattle.rt_plain.specs.kernel.Ownership.{Ownership, Member, Taken, member_at, is_there, owner_in, awaited_in}
 
 -- whether a thread is there
 abbrev pub has_thread : Ownership → ℕ → Bool

@@ -1,9 +1,9 @@
 -- Numbers that get more urgent along a chain of owners.
 use Rattle.std.specs.Prelude.{ℕ, ◌≡◌, ◌⊎◌, ◌<◌, ◌≤◌, suc, true, List, [], ◌∷◌, length, Option, Some, None, slice_index, nat_lt, if◌then◌else◌}
 use Rattle.std.specs.List.{insert, filter_map, range_with_len}
-use Rattle.rt_plain.specs.State.{is_among}
-use Rattle.rt_plain.specs.Priority.{reach}
-use Rattle.rt_plain.specs.Ownership.{Ownership, CurChange, member_urgency, graph_in, cur_in}
+use Rattle.rt_plain.specs.kernel.State.{is_among}
+use Rattle.rt_plain.specs.kernel.Priority.{reach}
+use Rattle.rt_plain.specs.kernel.Ownership.{Ownership, CurChange, member_urgency, graph_in, cur_in}
 use Rattle.mutex_chain.specs.Owners.{blocker_in}
 use Rattle.mutex_chain.specs.Graph.{listed_at}
 

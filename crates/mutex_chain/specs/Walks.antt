@@ -1,7 +1,7 @@
 -- How an urgency is carried along a chain of owners.
 use Rattle.std.specs.Prelude.{ℕ, ◌≡◌, zero, suc, min, Bool, false, ◌||◌, List, [], ◌∷◌, length, Option, Some, None, map, slice_set, slice_index, ◌==◌}
 use Rattle.std.specs.List.{range_with_len}
-use Rattle.rt_plain.specs.Ownership.{Ownership, member_urgency, cur_in}
+use Rattle.rt_plain.specs.kernel.Ownership.{Ownership, member_urgency, cur_in}
 use Rattle.mutex_chain.specs.Owners.{IsSound, AreOwned}
 
 -- the numbers with a less urgent one replaced by an urgency

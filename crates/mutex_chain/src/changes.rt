@@ -14,7 +14,7 @@ pub struct Change {
 }
 
 impl Model for Change {
-    ghost use Rattle.rt_plain.specs.Ownership.{CurChange};
+    ghost use Rattle.rt_plain.specs.kernel.Ownership.{CurChange};
 
     ghost Value = { CurChange };
 

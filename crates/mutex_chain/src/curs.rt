@@ -1,6 +1,6 @@
 ghost use Rattle.std.specs.Prelude.{ℕ, ◌≡◌, ◌<◌, ◌≤◌, length, min, IfSome};
 ghost use Rattle.std.specs.List.{filter_map, range_with_len};
-ghost use Rattle.rt_plain.specs.Ownership.{Ownership, member_urgency, changes, first_in, waiters_in};
+ghost use Rattle.rt_plain.specs.kernel.Ownership.{Ownership, member_urgency, changes, first_in, waiters_in};
 ghost use Rattle.mutex_chain.specs.Graph.{Keeps, changed_at, listed_at};
 ghost use Rattle.mutex_chain.specs.Owners.{IsSound, blocker_in};
 ghost use Rattle.mutex_chain.specs.Walks.{carried, urgencies_of, curs_of};

@@ -1,6 +1,6 @@
 ghost use Rattle.std.specs.Prelude.{ℕ, ◌≡◌, ◌<◌, ◌≤◌, false, length, map, All};
 ghost use Rattle.std.specs.List.{filter_map};
-ghost use Rattle.rt_plain.specs.Ownership.{leave_edits, owned_in, pass_edits, passes_from, waiters_in};
+ghost use Rattle.rt_plain.specs.kernel.Ownership.{leave_edits, owned_in, pass_edits, passes_from, waiters_in};
 ghost use Rattle.mutex_chain.specs.Graph.{pair_of, place_of, row_in};
 ghost use Rattle.mutex_chain.specs.Owners.{has_thread};
 ghost use Rattle.mutex_chain.specs.Walks.{curs_of};

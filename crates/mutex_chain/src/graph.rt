@@ -1,7 +1,7 @@
 ghost use Rattle.std.specs.Prelude.{◌≡◌, ◌≢◌, ◌+◌, ◌*◌, ◌<◌, ◌≤◌, [], ◌∷◌, None, Some, false, length, map, replicate, slice_set, IfOk, IfSome, IsTrue};
 ghost use Rattle.std.specs.Option.{option_map};
-ghost use Rattle.rt_plain.specs.Ownership.{awaited_in, base_edit, base_of, ceiling_edit, changes, cur_in, first_in, kill_mutex_edit, kill_thread_edit, leave_edit, member_at, owner_in, passes_of, release_edit, take_edit, taken_of, wait_edit, waiters_in, with_member};
-ghost use Rattle.rt_plain.specs.Weight.{ceiling_touches, edit_size};
+ghost use Rattle.rt_plain.specs.kernel.Ownership.{awaited_in, base_edit, base_of, ceiling_edit, changes, cur_in, first_in, kill_mutex_edit, kill_thread_edit, leave_edit, member_at, owner_in, passes_of, release_edit, take_edit, taken_of, wait_edit, waiters_in, with_member};
+ghost use Rattle.rt_plain.specs.kernel.Weight.{ceiling_touches, edit_size};
 ghost use Rattle.mutex_chain.specs.Graph.{IsOther, took_of, released_of, hold_of, pair_of};
 ghost use Rattle.mutex_chain.specs.Equations.{IsOnce};
 ghost use Rattle.mutex_chain.specs.Owners.{AreOwned, has_thread, has_mutex, ceiling_at};
@@ -43,7 +43,7 @@ pub struct MutexGraph {
 }
 
 impl Model for MutexGraph {
-    ghost use Rattle.rt_plain.specs.Ownership.{Ownership};
+    ghost use Rattle.rt_plain.specs.kernel.Ownership.{Ownership};
     ghost use Rattle.mutex_chain.specs.Walks.{IsCurrent};
 
     ghost Value = { Ownership };

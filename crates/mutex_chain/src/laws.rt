@@ -1,9 +1,9 @@
 //! Laws of current priorities: each is the contract of a function that does nothing.
 ghost use Rattle.std.specs.Prelude.{ℕ, ◌≡◌, ◌≢◌, ◌<◌, ◌≤◌, List, [], ◌∷◌, Some, true, length};
-ghost use Rattle.rt_plain.specs.State.{is_among};
-ghost use Rattle.rt_plain.specs.Priority.{Graph, blocker_of, urgency_of, reach, cur_of};
-ghost use Rattle.rt_plain.specs.Ownership.{Ownership, base_edit, ceiling_edit, cur_in, graph_in, kill_mutex_edit, kill_thread_edit, leave_edit, release_edit, take_edit, wait_edit};
-ghost use Rattle.rt_plain.specs.Weight.{ceiling_touches, end_touches, mutex_end_touches, release_touches};
+ghost use Rattle.rt_plain.specs.kernel.State.{is_among};
+ghost use Rattle.rt_plain.specs.kernel.Priority.{Graph, blocker_of, urgency_of, reach, cur_of};
+ghost use Rattle.rt_plain.specs.kernel.Ownership.{Ownership, base_edit, ceiling_edit, cur_in, graph_in, kill_mutex_edit, kill_thread_edit, leave_edit, release_edit, take_edit, wait_edit};
+ghost use Rattle.rt_plain.specs.kernel.Weight.{ceiling_touches, end_touches, mutex_end_touches, release_touches};
 ghost use Rattle.mutex_chain.specs.Equations.{IsSolution, SameBut, IsAway, IsOnce, Touches};
 
 /// A thread that nobody waits for has its own urgency.

@@ -1,8 +1,8 @@
 ghost use Rattle.std.specs.Prelude.{ℕ, ◌≡◌, ◌+◌, ◌<◌, ◌≤◌, [], None, Some, length, map, not, ◌==◌, filter, if◌then◌else◌, replicate, slice_set, vec_capacity, IfOk, IfSome, IsTrue};
 ghost use Rattle.std.specs.List.{find};
 ghost use Rattle.std.specs.Option.{is_some, option_map};
-ghost use Rattle.rt_plain.specs.Ownership.{base_of, member_at, taken_of, member_urgency, owned_in, owner_in, with_member, base_edit, member_edit, with_wait, with_mutex_free, with_mutex_got, with_taken_times, wait_of, take_edit, pass_edit_to, first_in, release_edit};
-ghost use Rattle.rt_plain.specs.Waiting.{head_of};
+ghost use Rattle.rt_plain.specs.kernel.Ownership.{base_of, member_at, taken_of, member_urgency, owned_in, owner_in, with_member, base_edit, member_edit, with_wait, with_mutex_free, with_mutex_got, with_taken_times, wait_of, take_edit, pass_edit_to, first_in, release_edit};
+ghost use Rattle.rt_plain.specs.kernel.Waiting.{head_of};
 ghost use Rattle.mutex_chain.specs.Graph.{is_last, took_of, released_of, row_in, waiter_with};
 ghost use Rattle.mutex_chain.specs.Owners.{IsSound, has_thread, has_mutex, ceiling_at, blocker_in, with_hold};
 
@@ -26,7 +26,7 @@ pub struct Owners {
 
 impl Model for Owners {
     ghost use Rattle.std.specs.Prelude.{◌≤◌, length, vec_capacity};
-    ghost use Rattle.rt_plain.specs.Ownership.{Ownership};
+    ghost use Rattle.rt_plain.specs.kernel.Ownership.{Ownership};
     ghost use Rattle.mutex_chain.specs.Owners.{IsSound, AreHolders};
 
     ghost Value = { Ownership };

@@ -1,7 +1,7 @@
 ghost use Rattle.std.specs.Prelude.{ℕ, ◌≡◌, ◌+◌, ◌*◌, ◌<◌, ◌≤◌, List, None, true, length};
-ghost use Rattle.rt_plain.specs.State.{is_among};
-ghost use Rattle.rt_plain.specs.Weight.{moment_weight};
-ghost use Rattle.rt_plain.specs.Ownership.{Ownership, changes};
+ghost use Rattle.rt_plain.specs.kernel.State.{is_among};
+ghost use Rattle.rt_plain.specs.kernel.Weight.{moment_weight};
+ghost use Rattle.rt_plain.specs.kernel.Ownership.{Ownership, changes};
 ghost use Rattle.mutex_chain.specs.Graph.{Keeps};
 ghost use Rattle.mutex_chain.specs.Owners.{IsSound};
 ghost use Rattle.mutex_chain.specs.Raising.{IsRaising, LeadsTo};

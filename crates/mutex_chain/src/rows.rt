@@ -12,7 +12,7 @@ pub struct WaitRow {
 }
 
 impl Model for WaitRow {
-    ghost use Rattle.rt_plain.specs.Ownership.{MutexWait};
+    ghost use Rattle.rt_plain.specs.kernel.Ownership.{MutexWait};
 
     ghost Value = { MutexWait };
 
@@ -29,7 +29,7 @@ pub struct MemberRow {
 }
 
 impl Model for MemberRow {
-    ghost use Rattle.rt_plain.specs.Ownership.{Member};
+    ghost use Rattle.rt_plain.specs.kernel.Ownership.{Member};
 
     ghost Value = { Member };
 
@@ -47,7 +47,7 @@ pub struct TakenRow {
 }
 
 impl Model for TakenRow {
-    ghost use Rattle.rt_plain.specs.Ownership.{Taken};
+    ghost use Rattle.rt_plain.specs.kernel.Ownership.{Taken};
 
     ghost Value = { Taken };
 

@@ -1,6 +1,6 @@
 ghost use Rattle.std.specs.Prelude.{◌≡◌};
 ghost use Rattle.rt_base.specs.declared.codes.WaitOrder.{WaitOrder};
-ghost use Rattle.rt_plain.specs.Waiting.{stands_before};
+ghost use Rattle.rt_plain.specs.kernel.Waiting.{stands_before};
 ghost use Rattle.mutex_chain.specs.Graph.{goes_before, sooner_of};
 
 use rt_base::ThreadNo;
@@ -15,7 +15,7 @@ pub struct Waiter {
 }
 
 impl Model for Waiter {
-    ghost use Rattle.rt_plain.specs.Waiting.{Waiter as PlainWaiter};
+    ghost use Rattle.rt_plain.specs.kernel.Waiting.{Waiter as PlainWaiter};
 
     ghost Value = { PlainWaiter };
 

@@ -6,7 +6,7 @@ use Rattle.std.proofs.lemmas.Grind.{div_ceil_times}
 use Rattle.std.specs.Int.{div_ceil}
 use native.Mathlib.Nat.{add-mul, one-mul, mul-div_cancel, mul-mod_left}
 use Rattle.pm_core.specs.Clock.{Clock, moment_of, IsRunning}
-use Rattle.rt_plain.specs.LpClock.{count_at, remainder_at, back}
+use Rattle.rt_plain.specs.kernel.LpClock.{count_at, remainder_at, back}
 
 -- a product that lacks less than one factor of the last one
 quotient : (at late h left whole : ℕ) → 1 ≤ h → at * h ≡ whole + left → left ≤ late * h → late * h < left + h → whole / h ≡ at - late

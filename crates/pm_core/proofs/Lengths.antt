@@ -6,8 +6,8 @@ use Rattle.std.proofs.lemmas.List.Elements.{All-weaker, All-append, All-cons, Al
 use Rattle.std.proofs.lemmas.List.Folds.{list_any_none, list_any_at}
 use Rattle.std.specs.List.{All, Contains}
 use Rattle.std.specs.Option.{ForSome}
-use Rattle.rt_plain.specs.State.{is_among}
-use Rattle.rt_plain.specs.Sleeps.{first_from, must_end, length_to}
+use Rattle.rt_plain.specs.kernel.State.{is_among}
+use Rattle.rt_plain.specs.kernel.Sleeps.{first_from, must_end, length_to}
 use Rattle.pm_core.specs.Moments.{IsLeastAhead}
 
 -- the least of the numbers, or none where there is none

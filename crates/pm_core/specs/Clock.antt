@@ -1,7 +1,7 @@
 -- What a low-power clock is, as its holder sees it, and what its type keeps.
 use Rattle.std.specs.Prelude.{ℕ, ◌≡◌, ◌+◌, ◌*◌, ◌/◌, ◌%◌, ◌<◌, ◌≤◌, List}
-use Rattle.rt_plain.specs.LpClock.{ticks_ahead}
-use Rattle.rt_plain.specs.Sleeps.{length_to}
+use Rattle.rt_plain.specs.kernel.LpClock.{ticks_ahead}
+use Rattle.rt_plain.specs.kernel.Sleeps.{length_to}
 
 -- the counts and the ticks of a second, and how many ticks have passed
 pub record Clock : Type 0 where

@@ -1,7 +1,7 @@
 -- The votes for sleep modes, and the mode of a board without votes.
 use Rattle.std.specs.Prelude.{ℕ, List}
 use Rattle.rt_base.specs.declared.codes.Sleep.{Sleep}
-use Rattle.rt_plain.specs.PowerCalls.{votes_for, with_votes}
+use Rattle.rt_plain.specs.kernel.PowerCalls.{votes_for, with_votes}
 
 -- the mode where none has a vote, and the number of votes for each mode, from the lightest on
 pub record PlainVotes : Type 0 where

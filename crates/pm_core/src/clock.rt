@@ -1,5 +1,5 @@
 ghost use Rattle.std.specs.Prelude.{◌≡◌, ◌+◌, ◌*◌, ◌<◌, ◌≤◌};
-ghost use Rattle.rt_plain.specs.LpClock.{count_at, remainder_at, counts_ahead, ticks_ahead};
+ghost use Rattle.rt_plain.specs.kernel.LpClock.{count_at, remainder_at, counts_ahead, ticks_ahead};
 
 use std::marker::Model;
 

@@ -1,6 +1,6 @@
 ghost use Rattle.std.specs.Prelude.{◌≡◌, ℕ, ◌+◌, ◌≤◌, List, [], ◌∷◌, ◌++◌};
 ghost use Rattle.std.specs.Option.{ForSome};
-ghost use Rattle.rt_plain.specs.Schedules.{round_count};
+ghost use Rattle.rt_plain.specs.runs.Schedules.{round_count};
 ghost use Rattle.pm_core.specs.Clock.{sleep_ticks};
 ghost use Rattle.pm_core.specs.Moments.{IsLeastAhead, long_enough};
 

@@ -1,5 +1,5 @@
 ghost use Rattle.std.specs.Prelude.{◌≡◌, ◌+◌, ◌-◌, ◌==◌, replicate, find, nat_lt, if◌then◌else◌};
-ghost use Rattle.rt_plain.specs.PowerCalls.{voted_mode, votes_for, sleep_modes};
+ghost use Rattle.rt_plain.specs.kernel.PowerCalls.{voted_mode, votes_for, sleep_modes};
 ghost use Rattle.pm_core.specs.Votes.{count_of, with_count};
 
 use rt_base::{Code, Sleep};

@@ -4,7 +4,7 @@ use Rattle.std.specs.List.{list_any}
 use Rattle.std.proofs.lemmas.Nat.{div_below}
 use Rattle.std.proofs.Math.Nat.{mod-add-div', mul_comm}
 use Rattle.std.proofs.lemmas.Bool.{false≢true, or_cases, or_left, or_right, and_from, eqb-true, eq-eqb, cases_Bool, cases_lt}
-use Rattle.rt_plain.specs.Pick.{ReadyRow, is_bound_so, is_in_queue}
+use Rattle.rt_plain.specs.kernel.Pick.{ReadyRow, is_bound_so, is_in_queue}
 use Rattle.ready_set.specs.Links.{IsAmong}
 use Rattle.ready_set.specs.ReadyLists.{ReadyView, binding_place, queue_place, queue_of, IsBinding, is_held, StandsForRows}
 use Rattle.ready_set.proofs.Chains.{true_from_among}

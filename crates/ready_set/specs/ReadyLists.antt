@@ -1,7 +1,7 @@
 -- A ready set as a list for each priority and binding, and the ready lists that it stands for.
 use Rattle.std.specs.Prelude.{ℕ, ◌≡◌, ◌+◌, ◌*◌, ◌<◌, ◌≤◌, ◌==◌, Bool, cond, nat_lt, not, List, [], Option, Some, None, length, filter, map, replicate, slice_index_or, slice_set}
 use Rattle.std.specs.List.{All}
-use Rattle.rt_plain.specs.Pick.{ReadyRow, ready_queue}
+use Rattle.rt_plain.specs.kernel.Pick.{ReadyRow, ready_queue}
 use Rattle.ready_set.specs.Links.{is_queued, without, Queued, occupied}
 use Rattle.ready_set.specs.Levels.{Bitmaps, level_bit}
 

@@ -1,6 +1,6 @@
 ghost use Rattle.std.specs.Prelude.{◌≡◌, ◌+◌, ◌*◌, ◌≤◌, ◌<◌, ◌++◌, ◌∷◌, ◌==◌, [], IfOk, IfNone, IfSome, List, false, true};
 ghost use Rattle.std.specs.List.{list_any};
-ghost use Rattle.rt_plain.specs.Pick.{ReadyRow, pick_among};
+ghost use Rattle.rt_plain.specs.kernel.Pick.{ReadyRow, pick_among};
 ghost use Rattle.ready_set.specs.ReadyLists.{IsBinding, StandsForRows, empty_view, HasNoneFor, binding_place, chosen, is_held, queue_of, row_of, rows_without, with_queue, without_thread};
 
 use crate::bits::PrioBits;

@@ -7,10 +7,10 @@ use Rattle.std.specs.Str.{bytes_eq}
 use Rattle.rt_plain.specs.declared.board.ThreadDef.{ThreadDef}
 use Rattle.rt_plain.specs.declared.stmt.Stmt.{Stmt}
 use Rattle.rt_plain.specs.PlainBoard.{PlainBoard}
-use Rattle.rt_plain.specs.Statements.{script_of, statement_at}
-use Rattle.rt_plain.specs.Canon.{IsValid}
-use Rattle.rt_plain.proofs.RunnableLemmas.{IsStocked, valid_stocked, valid_proper, valid_until, valid_scripts, valid_sized, valid_threads}
-use Rattle.rt_plain.proofs.TallyLemmas.{all-found}
+use Rattle.rt_plain.specs.kernel.Statements.{script_of, statement_at}
+use Rattle.rt_plain.specs.text.Canon.{IsValid}
+use Rattle.rt_plain.proofs.runs.RunnableLemmas.{IsStocked, valid_stocked, valid_proper, valid_until, valid_scripts, valid_sized, valid_threads}
+use Rattle.rt_plain.proofs.kernel.TallyLemmas.{all-found}
 use Rattle.rt_kernel.specs.Built.{is_built, IsBuilt, HasFittingObjects, is_built_thread, is_built_statement}
 
 no_items : {A : Type 0} (xs : List A) → eqb (length xs) 0 ≡ true → xs ≡ []

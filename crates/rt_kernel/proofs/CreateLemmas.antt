@@ -7,9 +7,9 @@ use Rattle.object_box.specs.declared.fault.Make.{Make}
 use Rattle.object_box.specs.declared.fault.Make.TheVariants.{Taken, ClassFull}
 use Rattle.rt_plain.specs.declared.board.SemDef.{SemDef}
 use Rattle.rt_plain.specs.declared.board.EventDef.{EventDef}
-use Rattle.rt_plain.specs.State.{Sem, EventObj}
-use Rattle.rt_plain.specs.Opening.{new_sem, new_event}
-use Rattle.rt_plain.proofs.FieldLemmas.{is_word}
+use Rattle.rt_plain.specs.kernel.State.{Sem, EventObj}
+use Rattle.rt_plain.specs.kernel.Opening.{new_sem, new_event}
+use Rattle.rt_plain.proofs.text.FieldLemmas.{is_word}
 use Rattle.rt_kernel.specs.Opened.{MayCreateSems, MayCreateEvents}
 use Rattle.rt_kernel.specs.Tabled.{Tabled, CreatesSem, CreatesEvent, found_sem, found_event}
 

@@ -1,8 +1,8 @@
 -- Which armed row fires first.
 use Rattle.std.proofs.Common.{◌≡◌, ℕ, zero, suc, ◌+◌, ◌<◌, arith, List, [], ◌∷◌, Option, Some, None, Bool, true, false, cond, refl, sym, ap, ◌∙◌, subst, length, map, drop, filter, get_or, add-one, nat_lt, option_map}
 use Rattle.std.specs.Prelude.{if◌then◌else◌, ◌==◌}
-use Rattle.rt_plain.specs.State.{ArmedRow, Alarm}
-use Rattle.rt_plain.specs.Due.{put_by_number, by_number, due_rows_at}
+use Rattle.rt_plain.specs.kernel.State.{ArmedRow, Alarm}
+use Rattle.rt_plain.specs.kernel.Due.{put_by_number, by_number, due_rows_at}
 use Rattle.rt_kernel.specs.Due.{earlier, least_due, first_alarm}
 use Rattle.rt_kernel.specs.declared.armed.Armed.{Armed}
 use Rattle.rt_kernel.specs.Threads.{plain_armed}

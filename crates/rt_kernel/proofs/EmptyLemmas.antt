@@ -4,9 +4,9 @@ use Rattle.std.proofs.lemmas.List.{length-append}
 use Rattle.std.proofs.lemmas.List.Elements.{All-push}
 use Rattle.rt_plain.specs.declared.board.ThreadDef.{ThreadDef}
 use Rattle.rt_plain.specs.declared.stmt.Call.{Call}
-use Rattle.rt_plain.specs.State.{Thread, Stage, Initial, Active, Waiting, Suspended, Closed, InCall}
-use Rattle.rt_plain.specs.Waiting.{number_in, takes_sem, receives_event}
-use Rattle.rt_plain.specs.Opening.{new_script_thread}
+use Rattle.rt_plain.specs.kernel.State.{Thread, Stage, Initial, Active, Waiting, Suspended, Closed, InCall}
+use Rattle.rt_plain.specs.kernel.Waiting.{number_in, takes_sem, receives_event}
+use Rattle.rt_plain.specs.kernel.Opening.{new_script_thread}
 use Rattle.susp_list.specs.Rows.{Waits}
 use Rattle.susp_list.specs.declared.row.Row.{Row as WaitRow}
 use Rattle.object_box.specs.declared.object.Object.{Object}

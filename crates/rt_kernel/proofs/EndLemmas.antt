@@ -2,7 +2,7 @@
 use Rattle.std.proofs.Common.{◌≡◌, ℕ, ◌≤◌, not, arith, List, [], ◌∷◌, ◌++◌, Bool, true, false, ◌||◌, refl, sym, ap, ◌∙◌, length, filter, cond, subst, T, eqb→eq}
 use Rattle.std.specs.Prelude.{◌==◌}
 use Rattle.std.proofs.lemmas.List.{append-nil}
-use Rattle.rt_plain.specs.State.{is_among}
+use Rattle.rt_plain.specs.kernel.State.{is_among}
 use Rattle.rt_kernel.specs.Prio.{to_end}
 
 none-left : (xs : List ℕ) → length xs ≤ 0 → xs ≡ []

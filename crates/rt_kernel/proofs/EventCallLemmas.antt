@@ -5,15 +5,15 @@ use Rattle.std.specs.Option.{option_map}
 use Rattle.std.specs.Str.{bytes_eq}
 use Rattle.rt_base.specs.declared.codes.Code.{Code}
 use Rattle.rt_plain.specs.declared.stmt.Call.{Call}
-use Rattle.rt_plain.specs.State.{State, EventObj, thread_at}
-use Rattle.rt_plain.specs.Effects.{each_effect}
-use Rattle.rt_plain.specs.Waiting.{waiters, receives_event}
-use Rattle.rt_plain.specs.Outcome.{ByThread, Outcome, refusal, success, found_outcome, first_wait_outcome}
-use Rattle.rt_plain.specs.EventCalls.{Want, Wanting, is_satisfied, want_of, with_event, event_recv, event_recv_outcome, event_send, event_send_outcome, satisfied_waiters, flags_left, flags_wake_effect}
-use Rattle.rt_plain.specs.DeleteCall.{deletion_outcome, event_deletion}
-use Rattle.rt_plain.proofs.FieldLemmas.{is_word}
-use Rattle.rt_plain.proofs.StatementTableLemmas.{find_some}
-use Rattle.rt_plain.proofs.TallyLemmas.{all-map, all-filter}
+use Rattle.rt_plain.specs.kernel.State.{State, EventObj, thread_at}
+use Rattle.rt_plain.specs.kernel.Effects.{each_effect}
+use Rattle.rt_plain.specs.kernel.Waiting.{waiters, receives_event}
+use Rattle.rt_plain.specs.kernel.Outcome.{ByThread, Outcome, refusal, success, found_outcome, first_wait_outcome}
+use Rattle.rt_plain.specs.kernel.EventCalls.{Want, Wanting, is_satisfied, want_of, with_event, event_recv, event_recv_outcome, event_send, event_send_outcome, satisfied_waiters, flags_left, flags_wake_effect}
+use Rattle.rt_plain.specs.kernel.DeleteCall.{deletion_outcome, event_deletion}
+use Rattle.rt_plain.proofs.text.FieldLemmas.{is_word}
+use Rattle.rt_plain.proofs.text.StatementTableLemmas.{find_some}
+use Rattle.rt_plain.proofs.kernel.TallyLemmas.{all-map, all-filter}
 use Rattle.rt_kernel.specs.declared.records.Records.{Records}
 use Rattle.rt_kernel.specs.Tabled.{Tabled, found_event, event_line, flags_got, events_received, wanting_on, woken_on, sent_to, all_woken}
 use Rattle.rt_kernel.specs.Threads.{row_at}

@@ -11,10 +11,10 @@ use Rattle.std.proofs.lemmas.List.FromFn.{length-range_with_len}
 use Rattle.std.proofs.lemmas.Option.{none-some, same_Some, slice_get_within, get_or_from_slice_get}
 use Rattle.rt_base.specs.declared.codes.WaitOrder.{WaitOrder}
 use Rattle.rt_plain.specs.declared.stmt.Call.{Call}
-use Rattle.rt_plain.specs.State.{Thread, Stage, Active, Waiting, InCall, EventObj as PlainEvent}
+use Rattle.rt_plain.specs.kernel.State.{Thread, Stage, Active, Waiting, InCall, EventObj as PlainEvent}
 use Rattle.rt_base.specs.declared.codes.Code.{Code}
-use Rattle.rt_plain.specs.Waiting.{Waiter, number_in, in_order, head_of, takes_sem, receives_event}
-use Rattle.rt_plain.specs.EventCalls.{Wanting, Want as PlainWant, want_of, is_satisfied, satisfied_waiters, flags_left, flags_after}
+use Rattle.rt_plain.specs.kernel.Waiting.{Waiter, number_in, in_order, head_of, takes_sem, receives_event}
+use Rattle.rt_plain.specs.kernel.EventCalls.{Wanting, Want as PlainWant, want_of, is_satisfied, satisfied_waiters, flags_left, flags_after}
 use Rattle.susp_list.specs.declared.row.Row.{Row as WaitRow}
 use Rattle.susp_list.proofs.OrderLemmas.{Each, Each-in_order, length-in_order}
 use Rattle.susp_list.specs.Rows.{line}

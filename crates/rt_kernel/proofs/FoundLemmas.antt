@@ -8,8 +8,8 @@ use Rattle.std.proofs.lemmas.Bool.{false≢true, true≢false, eqb-true, eqb-fal
 use Rattle.std.proofs.lemmas.Option.{none-some, same_Some}
 use Rattle.std.proofs.lemmas.Slice.Eq.{bytes_eq-Decides}
 use Rattle.rt_plain.specs.declared.stmt.Call.{Call}
-use Rattle.rt_plain.specs.State.{Thread, Stage, Waiting, InCall}
-use Rattle.rt_plain.specs.Waiting.{number_in, threads_in_order}
+use Rattle.rt_plain.specs.kernel.State.{Thread, Stage, Waiting, InCall}
+use Rattle.rt_plain.specs.kernel.Waiting.{number_in, threads_in_order}
 use Rattle.susp_list.specs.Rows.{Waits, line, is_waiting}
 use Rattle.susp_list.specs.declared.row.Row.{Row}
 use Rattle.susp_list.proofs.TableLemmas.{line_at}

@@ -4,25 +4,25 @@ use Rattle.std.specs.Prelude.{if◌then◌else◌, ◌==◌, nat_lt}
 use Rattle.std.specs.List.{AllByRecursion, list_any, range_with_len}
 use Rattle.std.proofs.lemmas.List.FromFn.{length-range_with_len}
 use Rattle.rt_plain.specs.PlainBoard.{PlainBoard}
-use Rattle.rt_plain.specs.State.{State, thread_at, running_on, Alarm, OfThread, ArmedRow, is_closed, is_nest_of}
-use Rattle.rt_plain.specs.Pick.{pick}
-use Rattle.rt_plain.specs.Statements.{script_of, statement_effect}
-use Rattle.rt_plain.specs.Sound.{is_active, is_waiting, IsProper}
-use Rattle.rt_plain.specs.Effects.{is_alarm, without_alarm}
-use Rattle.rt_plain.specs.Steps.{without_mark, is_preemptible, takes_from}
-use Rattle.rt_plain.specs.Due.{due, due_rows_at, by_number, put_by_number, timeout_effect, timeout_code}
-use Rattle.rt_plain.specs.Ticks.{next_tick_state, with_slice_used, thread_after_slice}
-use Rattle.rt_plain.specs.Owners.{close_effect}
-use Rattle.rt_plain.specs.Calls.{settled_effect}
-use Rattle.rt_plain.specs.Tally.{one_if, tally}
-use Rattle.rt_plain.proofs.TallyLemmas.{tally-length, all-count, all-weaker, tally-filter}
-use Rattle.rt_plain.specs.Kept.{Frame, Kept, stage_at, IsRowKept, IsRowBounded, IsFineThread, IsWaited}
-use Rattle.rt_plain.proofs.Invariant.{fine-at, fine-later, bounded-later, thread-kept, is-there, active-open, waiting-open, placed-active, running-active, run-kept, preempt-kept, without_alarm-kept}
-use Rattle.rt_plain.proofs.TickLemmas.{IsDueRow, DropsOne, due-rows, less-fits, filter-length, slice-fine, fold-kept}
-use Rattle.rt_plain.proofs.TickCosts.{all-owned, armed-few}
-use Rattle.rt_plain.proofs.StepLemmas.{picked-ready}
-use Rattle.rt_plain.proofs.StatementLemmas.{statement-kept, settled-kept}
-use Rattle.rt_plain.proofs.WakeLemmas.{wake-kept, close-kept}
+use Rattle.rt_plain.specs.kernel.State.{State, thread_at, running_on, Alarm, OfThread, ArmedRow, is_closed, is_nest_of}
+use Rattle.rt_plain.specs.kernel.Pick.{pick}
+use Rattle.rt_plain.specs.kernel.Statements.{script_of, statement_effect}
+use Rattle.rt_plain.specs.kernel.Sound.{is_active, is_waiting, IsProper}
+use Rattle.rt_plain.specs.kernel.Effects.{is_alarm, without_alarm}
+use Rattle.rt_plain.specs.kernel.Steps.{without_mark, is_preemptible, takes_from}
+use Rattle.rt_plain.specs.kernel.Due.{due, due_rows_at, by_number, put_by_number, timeout_effect, timeout_code}
+use Rattle.rt_plain.specs.kernel.Ticks.{next_tick_state, with_slice_used, thread_after_slice}
+use Rattle.rt_plain.specs.kernel.Owners.{close_effect}
+use Rattle.rt_plain.specs.kernel.Calls.{settled_effect}
+use Rattle.rt_plain.specs.kernel.Tally.{one_if, tally}
+use Rattle.rt_plain.proofs.kernel.TallyLemmas.{tally-length, all-count, all-weaker, tally-filter}
+use Rattle.rt_plain.specs.kernel.Kept.{Frame, Kept, stage_at, IsRowKept, IsRowBounded, IsFineThread, IsWaited}
+use Rattle.rt_plain.proofs.kernel.Invariant.{fine-at, fine-later, bounded-later, thread-kept, is-there, active-open, waiting-open, placed-active, running-active, run-kept, preempt-kept, without_alarm-kept}
+use Rattle.rt_plain.proofs.kernel.TickLemmas.{IsDueRow, DropsOne, due-rows, less-fits, filter-length, slice-fine, fold-kept}
+use Rattle.rt_plain.proofs.kernel.TickCosts.{all-owned, armed-few}
+use Rattle.rt_plain.proofs.kernel.StepLemmas.{picked-ready}
+use Rattle.rt_plain.proofs.kernel.StatementLemmas.{statement-kept, settled-kept}
+use Rattle.rt_plain.proofs.kernel.WakeLemmas.{wake-kept, close-kept}
 use Rattle.rt_kernel.specs.Due.{first_alarm}
 use Rattle.rt_kernel.specs.Inside.{frame_of}
 use Rattle.rt_kernel.specs.Switched.{switched, switched_by, effect_or, preempt_effect, AreNumbers}

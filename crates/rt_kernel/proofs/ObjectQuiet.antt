@@ -5,13 +5,13 @@ use Rattle.rt_base.specs.declared.codes.Code.{Code}
 use Rattle.rt_base.specs.declared.codes.WaitOrder.{WaitOrder}
 use Rattle.rt_plain.specs.declared.stmt.Call.{Call}
 use Rattle.rt_plain.specs.PlainBoard.{PlainBoard}
-use Rattle.rt_plain.specs.State.{State, Sem, EventObj, InCall, thread_at, with_thread}
-use Rattle.rt_plain.specs.Effects.{Effect, each_effect, wake_effect}
-use Rattle.rt_plain.specs.Waiting.{waiters, first_waiter, takes_sem, receives_event}
-use Rattle.rt_plain.specs.Outcome.{ByThread, refusal, first_wait_outcome}
-use Rattle.rt_plain.specs.SemCalls.{find_sem, with_sem, sem_create, sem_take, sem_release, sem_release_outcome}
-use Rattle.rt_plain.specs.EventCalls.{Want, Wanting, find_event, with_event, event_create, event_recv, event_send, flags_after, flags_wake_effect, flags_left, wanting_threads, satisfied_waiters}
-use Rattle.rt_plain.specs.DeleteCall.{sem_deletion, event_deletion}
+use Rattle.rt_plain.specs.kernel.State.{State, Sem, EventObj, InCall, thread_at, with_thread}
+use Rattle.rt_plain.specs.kernel.Effects.{Effect, each_effect, wake_effect}
+use Rattle.rt_plain.specs.kernel.Waiting.{waiters, first_waiter, takes_sem, receives_event}
+use Rattle.rt_plain.specs.kernel.Outcome.{ByThread, refusal, first_wait_outcome}
+use Rattle.rt_plain.specs.kernel.SemCalls.{find_sem, with_sem, sem_create, sem_take, sem_release, sem_release_outcome}
+use Rattle.rt_plain.specs.kernel.EventCalls.{Want, Wanting, find_event, with_event, event_create, event_recv, event_send, flags_after, flags_wake_effect, flags_left, wanting_threads, satisfied_waiters}
+use Rattle.rt_plain.specs.kernel.DeleteCall.{sem_deletion, event_deletion}
 use Rattle.rt_kernel.proofs.CurLemmas.{IsFree}
 use Rattle.rt_kernel.proofs.Quiet.{IsQuiet, IsQuietCall, quiet-self, quiet-then, quiet-row, quiet-wake, quiet-found, quiet-if, quiet-wait}
 

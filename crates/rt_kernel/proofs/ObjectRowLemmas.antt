@@ -9,9 +9,9 @@ use Rattle.rt_base.specs.declared.codes.Class.{Class}
 use Rattle.rt_plain.specs.declared.row.Row.{Row}
 use Rattle.rt_plain.specs.declared.stmt.Call.{Call}
 use Rattle.rt_plain.specs.PlainBoard.{PlainBoard}
-use Rattle.rt_plain.specs.State.{State, Thread, Sem, EventObj}
-use Rattle.rt_plain.specs.Waiting.{takes_sem, receives_event}
-use Rattle.rt_plain.specs.Rows.{rows, sem_row, event_row}
+use Rattle.rt_plain.specs.kernel.State.{State, Thread, Sem, EventObj}
+use Rattle.rt_plain.specs.kernel.Waiting.{takes_sem, receives_event}
+use Rattle.rt_plain.specs.kernel.Rows.{rows, sem_row, event_row}
 use Rattle.susp_list.specs.Rows.{Waits, line}
 use Rattle.object_box.specs.declared.object.Object.{Object}
 use Rattle.object_box.specs.Objects.{ClassObjects, IsSound, number_of}

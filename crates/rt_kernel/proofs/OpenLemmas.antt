@@ -5,11 +5,11 @@ use Rattle.std.proofs.lemmas.List.{append-nil, map_more, map-append}
 use Rattle.rt_kernel.specs.declared.rows.Row.{Row}
 use Rattle.rt_plain.specs.declared.board.ThreadDef.{ThreadDef}
 use Rattle.rt_plain.specs.PlainBoard.{PlainBoard}
-use Rattle.rt_plain.specs.State.{State, Thread, is_initial}
-use Rattle.rt_plain.specs.Opening.{new_script_thread, open_state}
-use Rattle.rt_plain.specs.Kept.{Kept}
-use Rattle.rt_plain.proofs.TickLemmas.{still}
-use Rattle.rt_plain.proofs.OpenLemmas.{opened-kept}
+use Rattle.rt_plain.specs.kernel.State.{State, Thread, is_initial}
+use Rattle.rt_plain.specs.kernel.Opening.{new_script_thread, open_state}
+use Rattle.rt_plain.specs.kernel.Kept.{Kept}
+use Rattle.rt_plain.proofs.kernel.TickLemmas.{still}
+use Rattle.rt_plain.proofs.kernel.OpenLemmas.{opened-kept}
 use Rattle.rt_kernel.specs.declared.records.Records.{Records}
 use Rattle.rt_kernel.specs.Built.{IsBuilt, is_built_thread}
 use Rattle.rt_kernel.specs.Inside.{frame_of}

@@ -4,10 +4,10 @@ use Rattle.rt_base.specs.declared.codes.Class.{Class}
 use Rattle.rt_plain.specs.declared.line.Line.{Line}
 use Rattle.rt_plain.specs.declared.stmt.Call.{Call}
 use Rattle.rt_plain.specs.PlainBoard.{PlainBoard}
-use Rattle.rt_plain.specs.State.{State, InCall, thread_at}
-use Rattle.rt_plain.specs.Effects.{name_of}
-use Rattle.rt_plain.specs.Outcome.{ByThread, First}
-use Rattle.rt_plain.specs.Calls.{outcome_of, settled_effect}
+use Rattle.rt_plain.specs.kernel.State.{State, InCall, thread_at}
+use Rattle.rt_plain.specs.kernel.Effects.{name_of}
+use Rattle.rt_plain.specs.kernel.Outcome.{ByThread, First}
+use Rattle.rt_plain.specs.kernel.Calls.{outcome_of, settled_effect}
 use Rattle.rt_kernel.specs.Built.{is_built_call}
 use Rattle.rt_kernel.specs.Own.{own_effect, begun, next_call}
 use Rattle.rt_kernel.proofs.CurLemmas.{IsFree}

@@ -2,12 +2,12 @@
 use Rattle.std.proofs.Common.{◌≡◌, ℕ, zero, suc, ◌<◌, ◌≤◌, ◌&&◌, ◌||◌, not, eqb, arith, length, drop, get_or, add-one, ◌+◌, List, [], ◌∷◌, Option, Some, None, Bool, true, false, refl, sym, ap, ◌∙◌, subst, map, filter, find, option_map, nat_lt, cond, is_some}
 use Rattle.std.specs.Prelude.{if◌then◌else◌}
 use Rattle.std.specs.List.{list_any}
-use Rattle.rt_plain.specs.State.{State, thread_at}
+use Rattle.rt_plain.specs.kernel.State.{State, thread_at}
 use Rattle.rt_kernel.specs.View.{state_of}
 use Rattle.rt_kernel.specs.Threads.{ArePlain}
 use Rattle.rt_kernel.specs.declared.records.Records.{Records}
-use Rattle.rt_plain.specs.Priority.{cur}
-use Rattle.rt_plain.specs.Pick.{pick, first_best, goes_before, is_free_for, ready_row}
+use Rattle.rt_plain.specs.kernel.Priority.{cur}
+use Rattle.rt_plain.specs.kernel.Pick.{pick, first_best, goes_before, is_free_for, ready_row}
 use Rattle.rt_kernel.specs.Best.{better, best_from, base_of}
 use Rattle.rt_kernel.proofs.CurLemmas.{IsFree, cur-base}
 

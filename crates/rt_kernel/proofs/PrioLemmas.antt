@@ -6,14 +6,14 @@ use Rattle.std.proofs.lemmas.List.{append-nil}
 use Rattle.rt_base.specs.declared.codes.Code.{Code}
 use Rattle.rt_plain.specs.declared.line.Line.{Line}
 use Rattle.rt_plain.specs.PlainBoard.{PlainBoard}
-use Rattle.rt_plain.specs.State.{State, Thread, no_thread, thread_at, with_thread, find_thread, is_closed, is_among}
-use Rattle.rt_plain.specs.Priority.{cur}
-use Rattle.rt_plain.specs.Effects.{Effect, name_of}
-use Rattle.rt_plain.specs.Outcome.{Outcome, refusal, silent_success, found_outcome}
-use Rattle.rt_plain.specs.ThreadCalls.{set_prio}
-use Rattle.rt_plain.specs.Statements.{call_effect, with_next}
-use Rattle.rt_plain.specs.Calls.{settled_effect, has_new_cur, prio_line}
-use Rattle.rt_plain.proofs.TallyLemmas.{same-set, other-set, here-set, length-set_at}
+use Rattle.rt_plain.specs.kernel.State.{State, Thread, no_thread, thread_at, with_thread, find_thread, is_closed, is_among}
+use Rattle.rt_plain.specs.kernel.Priority.{cur}
+use Rattle.rt_plain.specs.kernel.Effects.{Effect, name_of}
+use Rattle.rt_plain.specs.kernel.Outcome.{Outcome, refusal, silent_success, found_outcome}
+use Rattle.rt_plain.specs.kernel.ThreadCalls.{set_prio}
+use Rattle.rt_plain.specs.kernel.Statements.{call_effect, with_next}
+use Rattle.rt_plain.specs.kernel.Calls.{settled_effect, has_new_cur, prio_line}
+use Rattle.rt_plain.proofs.kernel.TallyLemmas.{same-set, other-set, here-set, length-set_at}
 use Rattle.rt_kernel.specs.Called.{called}
 use Rattle.rt_kernel.specs.Prio.{to_end, prio_settled, prio_called}
 use Rattle.rt_kernel.specs.Threads.{is_found}

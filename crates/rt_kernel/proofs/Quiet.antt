@@ -5,15 +5,15 @@ use Rattle.rt_base.specs.declared.codes.Code.{Code}
 use Rattle.rt_plain.specs.declared.line.Line.{Line}
 use Rattle.rt_plain.specs.declared.stmt.Stmt.{Stmt}
 use Rattle.rt_plain.specs.PlainBoard.{PlainBoard}
-use Rattle.rt_plain.specs.State.{State, Thread, Stage, Initial, Active, Waiting, Suspended, Closed, Awaited, Alarm, no_thread, thread_at, with_thread, find_thread}
-use Rattle.rt_plain.specs.Effects.{Effect, line_effect, active_state, wake_effect, waiting_state, with_alarm}
-use Rattle.rt_plain.specs.Owners.{close_effect, withdrawn_state}
-use Rattle.rt_plain.specs.Outcome.{By, ByThread, Answer, Answers, Waits, Outcome, refusal, found_outcome, wait_outcome, may_not_wait}
-use Rattle.rt_plain.specs.ThreadCalls.{yield, startup, suspend, suspended_state, may_suspend, resume, resume_outcome, kill, sched_lock, sched_unlock}
-use Rattle.rt_plain.specs.Statements.{call_effect, with_answer, with_next, plain_effect, print_effect, target, with_counter, said_text}
-use Rattle.rt_plain.specs.Calls.{settled_effect}
-use Rattle.rt_plain.specs.Due.{timeout_effect, timeout_code}
-use Rattle.rt_plain.proofs.TallyLemmas.{same-set}
+use Rattle.rt_plain.specs.kernel.State.{State, Thread, Stage, Initial, Active, Waiting, Suspended, Closed, Awaited, Alarm, no_thread, thread_at, with_thread, find_thread}
+use Rattle.rt_plain.specs.kernel.Effects.{Effect, line_effect, active_state, wake_effect, waiting_state, with_alarm}
+use Rattle.rt_plain.specs.kernel.Owners.{close_effect, withdrawn_state}
+use Rattle.rt_plain.specs.kernel.Outcome.{By, ByThread, Answer, Answers, Waits, Outcome, refusal, found_outcome, wait_outcome, may_not_wait}
+use Rattle.rt_plain.specs.kernel.ThreadCalls.{yield, startup, suspend, suspended_state, may_suspend, resume, resume_outcome, kill, sched_lock, sched_unlock}
+use Rattle.rt_plain.specs.kernel.Statements.{call_effect, with_answer, with_next, plain_effect, print_effect, target, with_counter, said_text}
+use Rattle.rt_plain.specs.kernel.Calls.{settled_effect}
+use Rattle.rt_plain.specs.kernel.Due.{timeout_effect, timeout_code}
+use Rattle.rt_plain.proofs.kernel.TallyLemmas.{same-set}
 use Rattle.rt_kernel.proofs.CurLemmas.{IsFree}
 use Rattle.rt_kernel.proofs.Settled.{KeepsBases, settled-kept}
 

@@ -1,7 +1,7 @@
 -- Reading and writing the row of a thread.
 use Rattle.std.proofs.Common.{◌≡◌, ℕ, zero, suc, [], ◌∷◌, ◌<◌, List, length, map, slice_index_or, slice_set, refl, sym, ap, ◌∙◌, subst}
 use Rattle.std.proofs.lemmas.List.{get_or-map, map-set, length-map}
-use Rattle.rt_plain.specs.State.{Thread, no_thread}
+use Rattle.rt_plain.specs.kernel.State.{Thread, no_thread}
 use Rattle.rt_kernel.specs.declared.rows.Row.{Row}
 use Rattle.rt_kernel.specs.Threads.{plain_thread, with_row, row_at, ArePlain}
 

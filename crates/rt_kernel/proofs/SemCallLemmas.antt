@@ -5,14 +5,14 @@ use Rattle.std.specs.Option.{option_map}
 use Rattle.std.specs.Str.{bytes_eq}
 use Rattle.rt_base.specs.declared.codes.Code.{Code}
 use Rattle.rt_plain.specs.declared.stmt.Call.{Call}
-use Rattle.rt_plain.specs.State.{State, Sem}
-use Rattle.rt_plain.specs.Effects.{each_effect}
-use Rattle.rt_plain.specs.Waiting.{waiters, first_waiter, head_of, takes_sem}
-use Rattle.rt_plain.specs.Outcome.{ByThread, Outcome, refusal, success, silent_success, found_outcome, first_wait_outcome}
-use Rattle.rt_plain.specs.SemCalls.{with_sem, sem_take, sem_take_outcome, sem_release, sem_release_outcome}
-use Rattle.rt_plain.specs.DeleteCall.{deletion_outcome, sem_deletion}
-use Rattle.rt_plain.proofs.FieldLemmas.{is_word}
-use Rattle.rt_plain.proofs.StatementTableLemmas.{find_some}
+use Rattle.rt_plain.specs.kernel.State.{State, Sem}
+use Rattle.rt_plain.specs.kernel.Effects.{each_effect}
+use Rattle.rt_plain.specs.kernel.Waiting.{waiters, first_waiter, head_of, takes_sem}
+use Rattle.rt_plain.specs.kernel.Outcome.{ByThread, Outcome, refusal, success, silent_success, found_outcome, first_wait_outcome}
+use Rattle.rt_plain.specs.kernel.SemCalls.{with_sem, sem_take, sem_take_outcome, sem_release, sem_release_outcome}
+use Rattle.rt_plain.specs.kernel.DeleteCall.{deletion_outcome, sem_deletion}
+use Rattle.rt_plain.proofs.text.FieldLemmas.{is_word}
+use Rattle.rt_plain.proofs.text.StatementTableLemmas.{find_some}
 use Rattle.ipc_counts.specs.declared.sem.SemReleased.TheVariants.{Woke, Raised, Full}
 use Rattle.rt_kernel.specs.declared.records.Records.{Records}
 use Rattle.rt_kernel.specs.Tabled.{Tabled, Releases, found_sem, sem_line, sems_taken, woken_row, all_woken}

@@ -12,12 +12,12 @@ use Rattle.std.proofs.lemmas.Option.{none-some, same_Some}
 use Rattle.susp_list.specs.declared.row.Row.{Row as WaitRow}
 use Rattle.susp_list.proofs.TableLemmas.{first_held}
 use Rattle.susp_list.proofs.OrderLemmas.{length-in_order}
-use Rattle.rt_plain.proofs.StatementCosts.{map-few}
+use Rattle.rt_plain.proofs.kernel.StatementCosts.{map-few}
 use Rattle.rt_base.specs.declared.codes.Code.{Code}
 use Rattle.rt_base.specs.declared.codes.WaitOrder.{WaitOrder}
 use Rattle.rt_plain.specs.declared.stmt.Call.{Call}
-use Rattle.rt_plain.specs.State.{Thread, Sem, Stage, Waiting, InCall}
-use Rattle.rt_plain.specs.Waiting.{Waiter, takes_sem, receives_event, head_of, first_of, in_order, number_in}
+use Rattle.rt_plain.specs.kernel.State.{Thread, Sem, Stage, Waiting, InCall}
+use Rattle.rt_plain.specs.kernel.Waiting.{Waiter, takes_sem, receives_event, head_of, first_of, in_order, number_in}
 use Rattle.susp_list.specs.Rows.{Waits, line, holds, waiters, is_waiting, waiter_of}
 use Rattle.object_box.specs.declared.object.Object.{Object}
 use Rattle.object_box.specs.Classes.{AllObjects}

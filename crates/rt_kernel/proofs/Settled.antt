@@ -7,11 +7,11 @@ use Rattle.std.proofs.lemmas.List.{append-nil}
 use Rattle.rt_base.specs.Codes.{sleep_number}
 use Rattle.rt_plain.specs.declared.line.Line.{Line}
 use Rattle.rt_plain.specs.PlainBoard.{PlainBoard}
-use Rattle.rt_plain.specs.State.{State, thread_at, thread_numbers, is_closed, is_among}
-use Rattle.rt_plain.specs.Priority.{cur}
-use Rattle.rt_plain.specs.PowerCalls.{sleep_mode, voted_mode}
-use Rattle.rt_plain.specs.Effects.{Effect, name_of}
-use Rattle.rt_plain.specs.Calls.{settled_effect, has_new_cur, prio_line, prio_lines, is_moved, reordered_state, mode_lines}
+use Rattle.rt_plain.specs.kernel.State.{State, thread_at, thread_numbers, is_closed, is_among}
+use Rattle.rt_plain.specs.kernel.Priority.{cur}
+use Rattle.rt_plain.specs.kernel.PowerCalls.{sleep_mode, voted_mode}
+use Rattle.rt_plain.specs.kernel.Effects.{Effect, name_of}
+use Rattle.rt_plain.specs.kernel.Calls.{settled_effect, has_new_cur, prio_line, prio_lines, is_moved, reordered_state, mode_lines}
 use Rattle.rt_kernel.proofs.CurLemmas.{IsFree, cur-base}
 
 eqb-self : (n : ℕ) → eqb n n ≡ true

@@ -5,14 +5,14 @@ use Rattle.rt_plain.specs.declared.line.Line.{Line}
 use Rattle.rt_plain.specs.declared.stmt.Call.{Call}
 use Rattle.rt_plain.specs.declared.stmt.Stmt.{Stmt}
 use Rattle.rt_plain.specs.PlainBoard.{PlainBoard}
-use Rattle.rt_plain.specs.State.{State, Thread, Retry, no_thread, thread_at}
-use Rattle.rt_plain.specs.Effects.{Effect}
-use Rattle.rt_plain.specs.Outcome.{ByThread, First}
-use Rattle.rt_plain.specs.Calls.{outcome_of, settled_effect}
-use Rattle.rt_plain.specs.Statements.{script_of, statement_at, statement_effect, script_effect, is_soft_thread, done_effect, call_effect}
-use Rattle.rt_plain.specs.Shell.{shell_effect}
-use Rattle.rt_plain.specs.SoftTurn.{soft_effect}
-use Rattle.rt_plain.proofs.TallyLemmas.{same-set}
+use Rattle.rt_plain.specs.kernel.State.{State, Thread, Retry, no_thread, thread_at}
+use Rattle.rt_plain.specs.kernel.Effects.{Effect}
+use Rattle.rt_plain.specs.kernel.Outcome.{ByThread, First}
+use Rattle.rt_plain.specs.kernel.Calls.{outcome_of, settled_effect}
+use Rattle.rt_plain.specs.kernel.Statements.{script_of, statement_at, statement_effect, script_effect, is_soft_thread, done_effect, call_effect}
+use Rattle.rt_plain.specs.kernel.Shell.{shell_effect}
+use Rattle.rt_plain.specs.kernel.SoftTurn.{soft_effect}
+use Rattle.rt_plain.proofs.kernel.TallyLemmas.{same-set}
 use Rattle.rt_kernel.specs.Own.{begun, next_call}
 use Rattle.rt_kernel.specs.Plain.{is_plain, plain_did}
 use Rattle.rt_kernel.proofs.CurLemmas.{IsFree}

@@ -1,8 +1,8 @@
 -- Who takes a core.
 use Rattle.std.proofs.Common.{◌≡◌, ℕ, ◌&&◌, ◌||◌, eqb, nat_lt, refl, ap, ◌∙◌}
-use Rattle.rt_plain.specs.State.{thread_at}
-use Rattle.rt_plain.specs.Priority.{cur}
-use Rattle.rt_plain.specs.Steps.{takes_from}
+use Rattle.rt_plain.specs.kernel.State.{thread_at}
+use Rattle.rt_plain.specs.kernel.Priority.{cur}
+use Rattle.rt_plain.specs.kernel.Steps.{takes_from}
 use Rattle.rt_kernel.specs.declared.records.Records.{Records}
 use Rattle.rt_kernel.specs.Best.{base_of}
 use Rattle.rt_kernel.specs.View.{state_of}

@@ -5,10 +5,10 @@ use Rattle.std.specs.Str.{bytes_eq}
 use Rattle.std.proofs.lemmas.List.{length-map, length-set}
 use Rattle.std.proofs.lemmas.Bool.{false≢true}
 use Rattle.rt_plain.specs.declared.stmt.Call.{Call}
-use Rattle.rt_plain.specs.State.{Thread, Stage, Active, Waiting, InCall, Sem, EventObj, no_thread, is_number}
-use Rattle.rt_plain.specs.Waiting.{number_in, takes_sem, receives_event}
-use Rattle.rt_plain.specs.Ticks.{thread_after_slice}
-use Rattle.rt_plain.specs.EventCalls.{want_of, want_of_call}
+use Rattle.rt_plain.specs.kernel.State.{Thread, Stage, Active, Waiting, InCall, Sem, EventObj, no_thread, is_number}
+use Rattle.rt_plain.specs.kernel.Waiting.{number_in, takes_sem, receives_event}
+use Rattle.rt_plain.specs.kernel.Ticks.{thread_after_slice}
+use Rattle.rt_plain.specs.kernel.EventCalls.{want_of, want_of_call}
 use Rattle.susp_list.specs.Rows.{holds, is_waiting, with_prio}
 use Rattle.susp_list.specs.declared.row.Row.{Row as WaitRow}
 use Rattle.object_box.specs.declared.object.Object.{Object}

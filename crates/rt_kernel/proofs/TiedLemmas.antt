@@ -10,8 +10,8 @@ use Rattle.std.proofs.lemmas.Bool.{false≢true}
 use Rattle.std.proofs.lemmas.List.{length-map, map-set, length-set}
 use Rattle.rt_base.specs.declared.codes.WaitOrder.{WaitOrder}
 use Rattle.rt_plain.specs.declared.stmt.Call.{Call}
-use Rattle.rt_plain.specs.State.{State, Thread, Stage, Waiting, InCall, thread_at, no_thread, is_number}
-use Rattle.rt_plain.specs.Waiting.{number_in, takes_sem, receives_event, threads_in_order, waiters, waiter_of}
+use Rattle.rt_plain.specs.kernel.State.{State, Thread, Stage, Waiting, InCall, thread_at, no_thread, is_number}
+use Rattle.rt_plain.specs.kernel.Waiting.{number_in, takes_sem, receives_event, threads_in_order, waiters, waiter_of}
 use Rattle.susp_list.specs.Rows.{Waits, line, waiter_of as row_waiter}
 use Rattle.susp_list.specs.declared.row.Row.{Row as WaitRow}
 use Rattle.object_box.specs.declared.object.Object.{Object}
@@ -21,7 +21,7 @@ use Rattle.ipc_counts.specs.Counted.{Counted}
 use Rattle.ipc_counts.specs.Flags.{Flagged}
 use Rattle.ipc_counts.specs.Sent.{want_at}
 use Rattle.ipc_counts.specs.declared.want.Want.{Want}
-use Rattle.rt_plain.specs.EventCalls.{want_of}
+use Rattle.rt_plain.specs.kernel.EventCalls.{want_of}
 use Rattle.rt_kernel.specs.Listed.{wait_row, row_with, calls_on, sem_no_at, event_no_at, sem_at, event_at, sems_with, events_with, is_known, no_waits}
 use Rattle.rt_kernel.specs.Tabled.{base_waiter, waiter_with, line_of, is_unlisted}
 use Rattle.rt_kernel.specs.Threads.{row_at}

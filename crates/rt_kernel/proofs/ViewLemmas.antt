@@ -3,9 +3,9 @@ use Rattle.std.proofs.Common.{◌≡◌, ℕ, ◌+◌, ◌≤◌, ◌∷◌, [],
 use Rattle.std.specs.List.{range_with_len}
 use Rattle.std.proofs.lemmas.List.{reverse-append, length-reverse}
 use Rattle.rt_base.specs.declared.codes.Sleep.{Sleep}
-use Rattle.rt_plain.specs.State.{Thread, thread_at, is_closed}
-use Rattle.rt_plain.specs.Priority.{cur}
-use Rattle.rt_plain.specs.PowerCalls.{votes_for}
+use Rattle.rt_plain.specs.kernel.State.{Thread, thread_at, is_closed}
+use Rattle.rt_plain.specs.kernel.Priority.{cur}
+use Rattle.rt_plain.specs.kernel.PowerCalls.{votes_for}
 use Rattle.rt_kernel.specs.declared.records.Records.{Records}
 use Rattle.rt_kernel.specs.Shown.{shown_below}
 use Rattle.rt_kernel.specs.Threads.{row_at}

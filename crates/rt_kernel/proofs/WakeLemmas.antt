@@ -9,14 +9,14 @@ use Rattle.rt_base.specs.declared.codes.WaitOrder.{WaitOrder}
 use Rattle.rt_plain.specs.declared.line.Line.{Line}
 use Rattle.rt_plain.specs.declared.line.Woke.{Woke}
 use Rattle.rt_plain.specs.declared.stmt.Call.{Call}
-use Rattle.rt_plain.specs.State.{State, Thread, Active, no_thread, thread_at}
-use Rattle.rt_plain.specs.Effects.{Effect, and_then, line_effect, each_effect, wake_effect}
-use Rattle.rt_plain.specs.EventCalls.{Wanting, flags_wake_effect}
-use Rattle.rt_plain.specs.Sound.{is_waiting}
-use Rattle.rt_plain.specs.Waiting.{waiters}
-use Rattle.rt_plain.proofs.Invariant.{is-there, waiting-open}
-use Rattle.rt_plain.proofs.TallyLemmas.{all-weaker, same-set, here-set, length-set_at}
-use Rattle.rt_plain.proofs.WakeLemmas.{waiters-wait}
+use Rattle.rt_plain.specs.kernel.State.{State, Thread, Active, no_thread, thread_at}
+use Rattle.rt_plain.specs.kernel.Effects.{Effect, and_then, line_effect, each_effect, wake_effect}
+use Rattle.rt_plain.specs.kernel.EventCalls.{Wanting, flags_wake_effect}
+use Rattle.rt_plain.specs.kernel.Sound.{is_waiting}
+use Rattle.rt_plain.specs.kernel.Waiting.{waiters}
+use Rattle.rt_plain.proofs.kernel.Invariant.{is-there, waiting-open}
+use Rattle.rt_plain.proofs.kernel.TallyLemmas.{all-weaker, same-set, here-set, length-set_at}
+use Rattle.rt_plain.proofs.kernel.WakeLemmas.{waiters-wait}
 use Rattle.rt_kernel.specs.Followed.{followed}
 use Rattle.rt_kernel.specs.declared.records.Records.{Records}
 use Rattle.rt_kernel.specs.Tabled.{Tabled, line_of, woken_row, given_row, all_woken, all_given}

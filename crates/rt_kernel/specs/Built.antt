@@ -6,7 +6,7 @@ use Rattle.rt_plain.specs.declared.board.ThreadDef.{ThreadDef}
 use Rattle.rt_plain.specs.declared.stmt.Call.{Call}
 use Rattle.rt_plain.specs.declared.stmt.Stmt.{Stmt}
 use Rattle.rt_plain.specs.PlainBoard.{PlainBoard}
-use Rattle.rt_plain.specs.Sound.{IsProper, IsSized}
+use Rattle.rt_plain.specs.kernel.Sound.{IsProper, IsSized}
 
 -- the classes of which objects are made and deleted
 abbrev pub is_built_class : Class → Bool

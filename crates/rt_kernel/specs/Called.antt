@@ -1,10 +1,10 @@
 -- What a call of a thread did.
 use Rattle.std.specs.Prelude.{ℕ}
 use Rattle.rt_plain.specs.declared.line.Line.{Line}
-use Rattle.rt_plain.specs.State.{State}
-use Rattle.rt_plain.specs.Effects.{Effect, name_of}
-use Rattle.rt_plain.specs.Outcome.{Answer as PlainAnswer, Answers, Waits, Outcome}
-use Rattle.rt_plain.specs.Statements.{call_effect}
+use Rattle.rt_plain.specs.kernel.State.{State}
+use Rattle.rt_plain.specs.kernel.Effects.{Effect, name_of}
+use Rattle.rt_plain.specs.kernel.Outcome.{Answer as PlainAnswer, Answers, Waits, Outcome}
+use Rattle.rt_plain.specs.kernel.Statements.{call_effect}
 use Rattle.rt_kernel.specs.declared.answer.Answer.{Answer}
 
 -- the answer as the statement table has it

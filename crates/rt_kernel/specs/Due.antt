@@ -1,7 +1,7 @@
 -- Which armed row fires next.
 use Rattle.std.specs.Prelude.{ℕ, List, [], ◌∷◌, Option, Some, None, nat_lt, if◌then◌else◌, ◌==◌}
-use Rattle.rt_plain.specs.State.{State, ArmedRow, Alarm}
-use Rattle.rt_plain.specs.Effects.{without_alarm}
+use Rattle.rt_plain.specs.kernel.State.{State, ArmedRow, Alarm}
+use Rattle.rt_plain.specs.kernel.Effects.{without_alarm}
 
 -- the row whose number is less, the second one of equals
 abbrev pub earlier : ArmedRow Alarm → Option (ArmedRow Alarm) → ArmedRow Alarm

@@ -1,10 +1,10 @@
 -- What is true of every kernel.
 use Rattle.std.specs.Prelude.{◌≡◌, eqb}
 use Rattle.rt_plain.specs.PlainBoard.{PlainBoard}
-use Rattle.rt_plain.specs.State.{State}
-use Rattle.rt_plain.specs.Tally.{tally}
-use Rattle.rt_plain.specs.Kept.{Frame, Kept}
-use Rattle.rt_plain.proofs.TickLemmas.{less-fits}
+use Rattle.rt_plain.specs.kernel.State.{State}
+use Rattle.rt_plain.specs.kernel.Tally.{tally}
+use Rattle.rt_plain.specs.kernel.Kept.{Frame, Kept}
+use Rattle.rt_plain.proofs.kernel.TickLemmas.{less-fits}
 use Rattle.rt_kernel.specs.declared.kernel.Kernel.TheInside.{Inside}
 use Rattle.rt_kernel.specs.Built.{IsBuilt}
 use Rattle.rt_kernel.specs.Limits.{limits_of, board_limits}

@@ -4,8 +4,8 @@ use Rattle.std.specs.List.{list_any}
 use Rattle.std.specs.Str.{bytes_eq}
 use Rattle.rt_base.specs.declared.codes.WaitOrder.{WaitOrder}
 use Rattle.rt_plain.specs.declared.stmt.Call.{Call}
-use Rattle.rt_plain.specs.State.{Thread, Stage, Waiting, InCall, Sem, EventObj}
-use Rattle.rt_plain.specs.Waiting.{number_in}
+use Rattle.rt_plain.specs.kernel.State.{Thread, Stage, Waiting, InCall, Sem, EventObj}
+use Rattle.rt_plain.specs.kernel.Waiting.{number_in}
 use Rattle.susp_list.specs.Rows.{Waits, holds, with_prio}
 use Rattle.susp_list.specs.declared.row.Row.{Row as WaitRow}
 use Rattle.object_box.specs.declared.object.Object.{Object}

@@ -1,7 +1,7 @@
 -- What the tables of semaphores and of event objects show.
 use Rattle.std.specs.Prelude.{List, length}
 use Rattle.rt_plain.specs.declared.row.Row.{Row}
-use Rattle.rt_plain.specs.State.{Thread, Sem, EventObj}
+use Rattle.rt_plain.specs.kernel.State.{Thread, Sem, EventObj}
 use Rattle.rt_kernel.specs.Tabled.{sem_line, event_line}
 
 -- the row of a semaphore

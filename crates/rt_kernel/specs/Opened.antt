@@ -5,7 +5,7 @@ use Rattle.rt_base.specs.declared.codes.WaitOrder.{WaitOrder}
 use Rattle.rt_plain.specs.declared.board.SemDef.{SemDef}
 use Rattle.rt_plain.specs.declared.board.EventDef.{EventDef}
 use Rattle.rt_plain.specs.PlainBoard.{PlainBoard}
-use Rattle.rt_plain.specs.Opening.{new_script_thread, new_sem, new_event}
+use Rattle.rt_plain.specs.kernel.Opening.{new_script_thread, new_sem, new_event}
 use Rattle.object_box.specs.Objects.{IsSound}
 use Rattle.susp_list.specs.Rows.{Waits}
 use Rattle.ipc_counts.specs.Counted.{Counted}

@@ -2,11 +2,11 @@
 use Rattle.std.specs.Prelude.{ℕ, ◌+◌}
 use Rattle.rt_plain.specs.declared.stmt.Call.{Call}
 use Rattle.rt_plain.specs.PlainBoard.{PlainBoard}
-use Rattle.rt_plain.specs.State.{State, thread_at}
-use Rattle.rt_plain.specs.Effects.{Effect}
-use Rattle.rt_plain.specs.Outcome.{ByThread, First}
-use Rattle.rt_plain.specs.Calls.{outcome_of}
-use Rattle.rt_plain.specs.Statements.{with_next}
+use Rattle.rt_plain.specs.kernel.State.{State, thread_at}
+use Rattle.rt_plain.specs.kernel.Effects.{Effect}
+use Rattle.rt_plain.specs.kernel.Outcome.{ByThread, First}
+use Rattle.rt_plain.specs.kernel.Calls.{outcome_of}
+use Rattle.rt_plain.specs.kernel.Statements.{with_next}
 use Rattle.rt_kernel.specs.Called.{called}
 use Rattle.rt_kernel.specs.Prio.{prio_called}
 

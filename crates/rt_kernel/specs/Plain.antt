@@ -3,9 +3,9 @@ use Rattle.std.specs.Prelude.{ℕ, ◌+◌, Bool, true, false, List, [], ◌∷�
 use Rattle.rt_base.specs.declared.codes.Code.{Code}
 use Rattle.rt_plain.specs.declared.line.Line.{Line}
 use Rattle.rt_plain.specs.declared.stmt.Stmt.{Stmt}
-use Rattle.rt_plain.specs.State.{State, thread_at}
-use Rattle.rt_plain.specs.Effects.{Effect, and_then, line_effect, name_of}
-use Rattle.rt_plain.specs.Statements.{plain_effect, with_next}
+use Rattle.rt_plain.specs.kernel.State.{State, thread_at}
+use Rattle.rt_plain.specs.kernel.Effects.{Effect, and_then, line_effect, name_of}
+use Rattle.rt_plain.specs.kernel.Statements.{plain_effect, with_next}
 
 -- whether it is no call
 abbrev pub is_plain : Stmt → Bool

@@ -1,9 +1,9 @@
 -- What another base priority does.
 use Rattle.std.specs.Prelude.{ℕ, not, List, [], ◌∷◌, ◌++◌, Option, Some, None, filter, if◌then◌else◌, ◌==◌}
 use Rattle.rt_plain.specs.declared.line.Line.{Line}
-use Rattle.rt_plain.specs.State.{State, thread_at, find_thread}
-use Rattle.rt_plain.specs.Effects.{Effect, name_of}
-use Rattle.rt_plain.specs.ThreadCalls.{set_prio}
+use Rattle.rt_plain.specs.kernel.State.{State, thread_at, find_thread}
+use Rattle.rt_plain.specs.kernel.Effects.{Effect, name_of}
+use Rattle.rt_plain.specs.kernel.ThreadCalls.{set_prio}
 use Rattle.rt_kernel.specs.Called.{called}
 
 -- the thread stands last, where it stands in the list

@@ -4,9 +4,9 @@ use Rattle.rt_base.specs.declared.codes.RunMode.{RunMode}
 use Rattle.rt_plain.specs.declared.stmt.Call.{Call}
 use Rattle.rt_plain.specs.declared.stmt.Stmt.{Stmt}
 use Rattle.rt_plain.specs.PlainBoard.{PlainBoard}
-use Rattle.rt_plain.specs.State.{State, thread_at, running_on}
-use Rattle.rt_plain.specs.Statements.{script_of, statement_at}
-use Rattle.rt_plain.specs.Opening.{new_console}
+use Rattle.rt_plain.specs.kernel.State.{State, thread_at, running_on}
+use Rattle.rt_plain.specs.kernel.Statements.{script_of, statement_at}
+use Rattle.rt_plain.specs.kernel.Opening.{new_console}
 use Rattle.rt_kernel.specs.declared.answer.By.{By}
 
 -- the board for which it was opened, and the state that it stands for

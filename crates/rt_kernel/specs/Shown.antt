@@ -1,7 +1,7 @@
 -- Whom the table of threads shows.
 use Rattle.std.specs.Prelude.{ℕ, not, List, reverse, filter, length}
 use Rattle.std.specs.List.{range_with_len}
-use Rattle.rt_plain.specs.State.{Thread, is_closed}
+use Rattle.rt_plain.specs.kernel.State.{Thread, is_closed}
 use Rattle.rt_kernel.specs.Threads.{row_at}
 
 -- the threads below a number that haven't ended, newest first

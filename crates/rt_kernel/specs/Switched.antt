@@ -1,10 +1,10 @@
 -- What a core does before its thread goes on: it may take another thread.
 use Rattle.std.specs.Prelude.{ℕ, ◌<◌, not, ◌&&◌, List, [], ◌∷◌, Option, Some, None, length, slice_index, if◌then◌else◌}
 use Rattle.rt_plain.specs.declared.line.Line.{Line}
-use Rattle.rt_plain.specs.State.{State, thread_at, running_on}
-use Rattle.rt_plain.specs.Pick.{pick}
-use Rattle.rt_plain.specs.Effects.{Effect, no_effect, name_of}
-use Rattle.rt_plain.specs.Steps.{with_running, preempted_state, is_preemptible, takes_from}
+use Rattle.rt_plain.specs.kernel.State.{State, thread_at, running_on}
+use Rattle.rt_plain.specs.kernel.Pick.{pick}
+use Rattle.rt_plain.specs.kernel.Effects.{Effect, no_effect, name_of}
+use Rattle.rt_plain.specs.kernel.Steps.{with_running, preempted_state, is_preemptible, takes_from}
 
 -- a free core runs the thread
 abbrev pub run_effect : State → ℕ → ℕ → Effect

@@ -5,9 +5,9 @@ use Rattle.std.specs.Str.{bytes_eq}
 use Rattle.rt_base.specs.declared.codes.Code.{Code}
 use Rattle.rt_base.specs.declared.codes.WaitOrder.{WaitOrder}
 use Rattle.rt_plain.specs.declared.stmt.Call.{Call}
-use Rattle.rt_plain.specs.State.{Thread, Stage, Active, Waiting, InCall, Sem, EventObj}
-use Rattle.rt_plain.specs.Waiting.{Waiter, number_in, threads_in_order, head_of, takes_sem, receives_event}
-use Rattle.rt_plain.specs.EventCalls.{Want as PlainWant, Wanting, is_satisfied, flags_after, flags_left, satisfied_waiters, want_of}
+use Rattle.rt_plain.specs.kernel.State.{Thread, Stage, Active, Waiting, InCall, Sem, EventObj}
+use Rattle.rt_plain.specs.kernel.Waiting.{Waiter, number_in, threads_in_order, head_of, takes_sem, receives_event}
+use Rattle.rt_plain.specs.kernel.EventCalls.{Want as PlainWant, Wanting, is_satisfied, flags_after, flags_left, satisfied_waiters, want_of}
 use Rattle.object_box.specs.declared.fault.Make.{Make}
 use Rattle.object_box.specs.declared.fault.Make.TheVariants.{Taken, ClassFull}
 use Rattle.ipc_counts.specs.declared.sem.SemReleased.{SemReleased}

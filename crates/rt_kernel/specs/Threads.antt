@@ -1,7 +1,7 @@
 -- What the row of a thread stands for.
 use Rattle.std.specs.Prelude.{◌≡◌, ℕ, Bool, not, ◌&&◌, List, [], None, slice_set, slice_index_or}
 use Rattle.std.specs.Str.{bytes_eq}
-use Rattle.rt_plain.specs.State.{Thread, Stage, Initial, Active, Waiting, Suspended, Closed, InCall, no_thread, is_closed, ArmedRow, Alarm, OfThread}
+use Rattle.rt_plain.specs.kernel.State.{Thread, Stage, Initial, Active, Waiting, Suspended, Closed, InCall, no_thread, is_closed, ArmedRow, Alarm, OfThread}
 use Rattle.rt_kernel.specs.declared.place.Place.{Place}
 use Rattle.rt_kernel.specs.declared.rows.Row.{Row}
 use Rattle.rt_kernel.specs.declared.armed.Armed.{Armed}

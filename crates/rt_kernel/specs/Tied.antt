@@ -1,8 +1,8 @@
 -- The wait lists hold exactly the threads that wait for their objects.
 use Rattle.std.specs.Prelude.{ℕ, ◌≡◌, ◌<◌, true, List, length, map, is_some, slice_get}
-use Rattle.rt_plain.specs.State.{Thread}
-use Rattle.rt_plain.specs.Waiting.{takes_sem, receives_event}
-use Rattle.rt_plain.specs.EventCalls.{want_of}
+use Rattle.rt_plain.specs.kernel.State.{Thread}
+use Rattle.rt_plain.specs.kernel.Waiting.{takes_sem, receives_event}
+use Rattle.rt_plain.specs.kernel.EventCalls.{want_of}
 use Rattle.object_box.specs.Classes.{AllObjects}
 use Rattle.object_box.specs.Objects.{IsSound}
 use Rattle.ipc_counts.specs.Counted.{Counted}

@@ -1,8 +1,8 @@
 -- The plain state that the kernel's records stand for. What isn't built yet is constant.
 use Rattle.std.specs.Prelude.{[], ◌∷◌, None, replicate}
 use Rattle.rt_base.specs.declared.codes.RunMode.{RunMode}
-use Rattle.rt_plain.specs.State.{State}
-use Rattle.rt_plain.specs.Opening.{new_console}
+use Rattle.rt_plain.specs.kernel.State.{State}
+use Rattle.rt_plain.specs.kernel.Opening.{new_console}
 use Rattle.rt_kernel.specs.declared.records.Records.{Records}
 
 -- the state

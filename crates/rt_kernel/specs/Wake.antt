@@ -3,8 +3,8 @@ use Rattle.std.specs.Prelude.{ℕ}
 use Rattle.rt_base.specs.declared.codes.Code.{Code}
 use Rattle.rt_plain.specs.declared.line.Line.{Line}
 use Rattle.rt_plain.specs.declared.line.Woke.{Woke}
-use Rattle.rt_plain.specs.State.{State}
-use Rattle.rt_plain.specs.Effects.{Effect, line_effect, name_of}
+use Rattle.rt_plain.specs.kernel.State.{State}
+use Rattle.rt_plain.specs.kernel.Effects.{Effect, line_effect, name_of}
 use Rattle.rt_kernel.specs.Followed.{followed}
 
 -- its line is shown, its armed row goes, and it goes to the end of the ready list

@@ -1,7 +1,7 @@
 ghost use Rattle.std.specs.Prelude.{◌≡◌, ◌<◌, ◌≤◌, not, [], ◌∷◌, ◌++◌, ◌==◌, length, filter, map, Some, IfOk};
-ghost use Rattle.rt_plain.specs.State.{OfThread};
-ghost use Rattle.rt_plain.specs.Effects.{is_alarm};
-ghost use Rattle.rt_plain.specs.Sleeps.{is_empty};
+ghost use Rattle.rt_plain.specs.kernel.State.{OfThread};
+ghost use Rattle.rt_plain.specs.kernel.Effects.{is_alarm};
+ghost use Rattle.rt_plain.specs.kernel.Sleeps.{is_empty};
 ghost use Rattle.std.specs.Option.{option_map};
 ghost use Rattle.rt_kernel.specs.Due.{earlier, least_due};
 ghost use Rattle.rt_kernel.specs.Threads.{plain_armed};
@@ -68,7 +68,7 @@ pub struct ArmedRows {
 
 impl Model for ArmedRows {
     ghost use Rattle.std.specs.Prelude.{List, ◌≤◌, vec_capacity, map};
-    ghost use Rattle.rt_plain.specs.State.{ArmedRow, Alarm};
+    ghost use Rattle.rt_plain.specs.kernel.State.{ArmedRow, Alarm};
     ghost use Rattle.rt_kernel.specs.Threads.{plain_armed};
 
     ghost Value = { List (ArmedRow Alarm) };

@@ -1,6 +1,6 @@
 ghost use Rattle.std.specs.Prelude.{◌≡◌, ◌+◌, ◌<◌, ◌≤◌, ◌^◌, ◌-◌, ◌++◌, ◌==◌, ℕ, true, length, filter};
-ghost use Rattle.rt_plain.specs.Outcome.{ByThread, First};
-ghost use Rattle.rt_plain.specs.Calls.{outcome_of, settled_effect};
+ghost use Rattle.rt_plain.specs.kernel.Outcome.{ByThread, First};
+ghost use Rattle.rt_plain.specs.kernel.Calls.{outcome_of, settled_effect};
 ghost use Rattle.rt_kernel.specs.Built.{is_built_call};
 ghost use Rattle.rt_kernel.specs.Called.{plain_answer};
 ghost use Rattle.rt_kernel.specs.Limits.{limits_of, board_limits};

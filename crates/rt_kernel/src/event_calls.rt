@@ -1,8 +1,8 @@
 ghost use Rattle.std.specs.Prelude.{◌≡◌, ◌+◌, ◌<◌, ◌≤◌, ◌^◌, ◌++◌, length};
 ghost use Rattle.rt_plain.specs.PlainBoard.{PlainBoard};
-ghost use Rattle.rt_plain.specs.Outcome.{ByThread};
-ghost use Rattle.rt_plain.specs.EventCalls.{event_create, event_send, event_recv};
-ghost use Rattle.rt_plain.specs.DeleteCall.{event_deletion};
+ghost use Rattle.rt_plain.specs.kernel.Outcome.{ByThread};
+ghost use Rattle.rt_plain.specs.kernel.EventCalls.{event_create, event_send, event_recv};
+ghost use Rattle.rt_plain.specs.kernel.DeleteCall.{event_deletion};
 ghost use Rattle.ipc_counts.specs.Flags.{plain_want};
 ghost use Rattle.rt_kernel.specs.Called.{called, plain_answer};
 ghost use Rattle.rt_kernel.specs.Limits.{limits_of, board_limits};

@@ -1,7 +1,7 @@
 ghost use Rattle.std.specs.Prelude.{◌≡◌, ◌≤◌, length, is_some, Some};
 ghost use Rattle.std.specs.Bool.{OnTrue, OnFalse};
 ghost use Rattle.std.specs.Option.{option_map};
-ghost use Rattle.rt_plain.specs.State.{EventObj as PlainEvent};
+ghost use Rattle.rt_plain.specs.kernel.State.{EventObj as PlainEvent};
 ghost use Rattle.ipc_counts.specs.Flags.{plain_want};
 ghost use Rattle.rt_kernel.specs.Tabled.{found_event, flags_got, events_received, CreatesEvent, event_line, woken_on, sent_to, without_event};
 

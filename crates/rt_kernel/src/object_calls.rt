@@ -1,7 +1,7 @@
 ghost use Rattle.std.specs.Prelude.{◌≡◌, ◌+◌, ◌<◌, ◌≤◌, ◌^◌, ◌++◌, true, length};
 ghost use Rattle.std.specs.List.{AllByRecursion};
-ghost use Rattle.rt_plain.specs.Outcome.{silent_success, first_wait_outcome};
-ghost use Rattle.rt_plain.specs.Effects.{each_effect};
+ghost use Rattle.rt_plain.specs.kernel.Outcome.{silent_success, first_wait_outcome};
+ghost use Rattle.rt_plain.specs.kernel.Effects.{each_effect};
 ghost use Rattle.rt_kernel.specs.Called.{called, plain_answer};
 ghost use Rattle.rt_kernel.specs.Limits.{limits_of};
 ghost use Rattle.rt_kernel.specs.Tabled.{knows};

@@ -1,7 +1,7 @@
 ghost use Rattle.std.specs.Prelude.{◌≡◌, not, true, [], reverse, length, map, filter, None, IfOk, if◌then◌else◌};
 ghost use Rattle.std.specs.List.{list_all, range_with_len};
-ghost use Rattle.rt_plain.specs.State.{Active, Initial, is_initial};
-ghost use Rattle.rt_plain.specs.Opening.{new_script_thread, new_sem, new_event, open_state};
+ghost use Rattle.rt_plain.specs.kernel.State.{Active, Initial, is_initial};
+ghost use Rattle.rt_plain.specs.kernel.Opening.{new_script_thread, new_sem, new_event, open_state};
 ghost use Rattle.rt_kernel.specs.Built.{IsBuilt, is_built_thread};
 ghost use Rattle.rt_kernel.specs.Limits.{limits_of, board_limits};
 ghost use Rattle.rt_kernel.specs.Opened.{empty_waits, AreFreeSems, AreFreeEvents, AreEmpty, MayCreateSems, MayCreateEvents, first_tables};

@@ -1,8 +1,8 @@
 ghost use Rattle.std.specs.Prelude.{◌≡◌, false, true};
-ghost use Rattle.rt_plain.specs.State.{is_closed, is_initial, is_suspended};
-ghost use Rattle.rt_plain.specs.Sound.{is_waiting};
-ghost use Rattle.rt_plain.specs.Due.{timeout_code};
-ghost use Rattle.rt_plain.specs.Rows.{state_at};
+ghost use Rattle.rt_plain.specs.kernel.State.{is_closed, is_initial, is_suspended};
+ghost use Rattle.rt_plain.specs.kernel.Sound.{is_waiting};
+ghost use Rattle.rt_plain.specs.kernel.Due.{timeout_code};
+ghost use Rattle.rt_plain.specs.kernel.Rows.{state_at};
 ghost use Rattle.rt_kernel.specs.Threads.{stage_of};
 
 use rt_base::Code;

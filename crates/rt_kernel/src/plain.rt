@@ -1,7 +1,7 @@
 ghost use Rattle.std.specs.Prelude.{◌≡◌, ◌+◌, ◌<◌, ◌≤◌, ◌^◌, ◌++◌, length, true, Some, decimal, ℕ, List, ◌-◌};
 ghost use Rattle.rt_plain.specs.declared.stmt.Stmt.{Stmt};
-ghost use Rattle.rt_plain.specs.Words.{code_text};
-ghost use Rattle.rt_plain.specs.Statements.{plain_effect, said_text, target};
+ghost use Rattle.rt_plain.specs.text.Words.{code_text};
+ghost use Rattle.rt_plain.specs.kernel.Statements.{plain_effect, said_text, target};
 ghost use Rattle.rt_kernel.specs.Limits.{limits_of};
 ghost use Rattle.rt_kernel.specs.Plain.{is_plain, printed, plain_did};
 ghost use Rattle.rt_kernel.specs.Threads.{row_at};

@@ -1,5 +1,5 @@
 ghost use Rattle.std.specs.Prelude.{◌≡◌, ◌<◌, ◌≤◌, not, [], ◌∷◌, ◌++◌, ◌==◌, length, filter, slice_index, IfOk};
-ghost use Rattle.rt_plain.specs.State.{is_among};
+ghost use Rattle.rt_plain.specs.kernel.State.{is_among};
 ghost use Rattle.rt_kernel.specs.Prio.{to_end};
 
 use rt_base::ThreadNo;

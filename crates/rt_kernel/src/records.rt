@@ -1,10 +1,10 @@
 ghost use Rattle.std.specs.Prelude.{◌≡◌, ◌+◌, ◌<◌, ◌≤◌, ◌^◌, ◌++◌, ◌∷◌, [], length, Some, None, true, ◌==◌};
 ghost use Rattle.rt_plain.specs.declared.line.Line.TheVariants.{Wake as WakeLine};
 ghost use Rattle.rt_plain.specs.declared.line.Woke.TheVariants.{Code as WokeCode};
-ghost use Rattle.rt_plain.specs.State.{InCall};
-ghost use Rattle.rt_plain.specs.Effects.{name_of, without_core, waiting_state, active_state, wake_effect};
-ghost use Rattle.rt_plain.specs.ThreadCalls.{start_effect, suspended_state};
-ghost use Rattle.rt_plain.specs.Owners.{close_effect, withdrawn_state};
+ghost use Rattle.rt_plain.specs.kernel.State.{InCall};
+ghost use Rattle.rt_plain.specs.kernel.Effects.{name_of, without_core, waiting_state, active_state, wake_effect};
+ghost use Rattle.rt_plain.specs.kernel.ThreadCalls.{start_effect, suspended_state};
+ghost use Rattle.rt_plain.specs.kernel.Owners.{close_effect, withdrawn_state};
 ghost use Rattle.rt_kernel.specs.Followed.{followed};
 ghost use Rattle.rt_kernel.specs.Limits.{limits_of};
 ghost use Rattle.rt_kernel.specs.Tabled.{knows};

@@ -1,10 +1,10 @@
 ghost use Rattle.std.specs.Prelude.{◌≡◌, ◌-◌, ◌<◌, ◌≤◌, ◌&&◌, length, map, true, false, IfSome, None};
 ghost use Rattle.std.specs.List.{position_from};
-ghost use Rattle.rt_plain.specs.State.{is_closed, is_initial, is_suspended, Closed};
-ghost use Rattle.rt_plain.specs.Sound.{is_waiting};
-ghost use Rattle.rt_plain.specs.Due.{timeout_code};
-ghost use Rattle.rt_plain.specs.Rows.{state_at};
-ghost use Rattle.rt_plain.specs.Ticks.{thread_after_slice};
+ghost use Rattle.rt_plain.specs.kernel.State.{is_closed, is_initial, is_suspended, Closed};
+ghost use Rattle.rt_plain.specs.kernel.Sound.{is_waiting};
+ghost use Rattle.rt_plain.specs.kernel.Due.{timeout_code};
+ghost use Rattle.rt_plain.specs.kernel.Rows.{state_at};
+ghost use Rattle.rt_plain.specs.kernel.Ticks.{thread_after_slice};
 ghost use Rattle.rt_kernel.specs.Tabled.{woken_row, given_row};
 ghost use Rattle.rt_kernel.specs.Threads.{stage_of, plain_thread, with_row, row_at, is_found, ArePlain};
 
@@ -66,7 +66,7 @@ pub struct Rows {
 
 impl Model for Rows {
     ghost use Rattle.std.specs.Prelude.{List, map, length, ◌≤◌};
-    ghost use Rattle.rt_plain.specs.State.{Thread};
+    ghost use Rattle.rt_plain.specs.kernel.State.{Thread};
     ghost use Rattle.rt_kernel.specs.Threads.{plain_thread};
 
     ghost Value = { List Thread };

@@ -1,8 +1,8 @@
 ghost use Rattle.std.specs.Prelude.{◌≡◌, ◌+◌, ◌<◌, ◌≤◌, ◌^◌, ◌++◌, length};
 ghost use Rattle.rt_plain.specs.PlainBoard.{PlainBoard};
-ghost use Rattle.rt_plain.specs.Outcome.{ByThread};
-ghost use Rattle.rt_plain.specs.SemCalls.{sem_create, sem_take, sem_release};
-ghost use Rattle.rt_plain.specs.DeleteCall.{sem_deletion};
+ghost use Rattle.rt_plain.specs.kernel.Outcome.{ByThread};
+ghost use Rattle.rt_plain.specs.kernel.SemCalls.{sem_create, sem_take, sem_release};
+ghost use Rattle.rt_plain.specs.kernel.DeleteCall.{sem_deletion};
 ghost use Rattle.rt_kernel.specs.Called.{called, plain_answer};
 ghost use Rattle.rt_kernel.specs.Limits.{limits_of, board_limits};
 ghost use Rattle.rt_kernel.specs.View.{state_of};

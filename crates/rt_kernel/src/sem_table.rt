@@ -1,7 +1,7 @@
 ghost use Rattle.std.specs.Prelude.{◌≡◌, ◌≤◌, length, is_some, nat_lt, Some};
 ghost use Rattle.std.specs.Bool.{OnTrue, OnFalse};
 ghost use Rattle.std.specs.Option.{option_map};
-ghost use Rattle.rt_plain.specs.State.{Sem as PlainSem};
+ghost use Rattle.rt_plain.specs.kernel.State.{Sem as PlainSem};
 ghost use Rattle.rt_kernel.specs.Tabled.{found_sem, sems_taken, Releases, CreatesSem, sem_line, without_sem};
 
 use crate::queue::Queue;

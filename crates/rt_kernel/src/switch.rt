@@ -1,6 +1,6 @@
 ghost use Rattle.std.specs.Prelude.{◌≡◌, ◌+◌, ◌<◌, ◌≤◌, ◌++◌, length, Some, None, IfSome, is_some};
-ghost use Rattle.rt_plain.specs.Pick.{pick};
-ghost use Rattle.rt_plain.specs.Steps.{with_running, preempted_state, is_preemptible, takes_from};
+ghost use Rattle.rt_plain.specs.kernel.Pick.{pick};
+ghost use Rattle.rt_plain.specs.kernel.Steps.{with_running, preempted_state, is_preemptible, takes_from};
 ghost use Rattle.rt_kernel.specs.Best.{better, base_of};
 ghost use Rattle.rt_kernel.specs.Limits.{limits_of};
 ghost use Rattle.rt_kernel.specs.Switched.{switched, effect_or, run_effect, preempt_effect, AreNumbers};

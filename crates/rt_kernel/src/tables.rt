@@ -1,6 +1,6 @@
 ghost use Rattle.std.specs.Prelude.{◌≡◌, ◌<◌, length, true, false, None};
-ghost use Rattle.rt_plain.specs.State.{Closed, Waiting, InCall};
-ghost use Rattle.rt_plain.specs.Ticks.{thread_after_slice};
+ghost use Rattle.rt_plain.specs.kernel.State.{Closed, Waiting, InCall};
+ghost use Rattle.rt_plain.specs.kernel.Ticks.{thread_after_slice};
 ghost use Rattle.rt_kernel.specs.Tabled.{is_unlisted, knows};
 ghost use Rattle.rt_kernel.specs.Threads.{stage_of, with_row};
 

@@ -1,9 +1,9 @@
 ghost use Rattle.std.specs.Prelude.{◌≡◌, ◌+◌, ◌<◌, ◌≤◌, ◌^◌, ◌++◌, ◌∷◌, [], ℕ, length, filter, ◌==◌, Some, None, IfSome};
 ghost use Rattle.rt_plain.specs.declared.line.Line.TheVariants.{Done as DoneLine};
-ghost use Rattle.rt_plain.specs.Effects.{name_of};
-ghost use Rattle.rt_plain.specs.State.{find_thread};
-ghost use Rattle.rt_plain.specs.Outcome.{ByThread, refusal, may_not_wait};
-ghost use Rattle.rt_plain.specs.ThreadCalls.{delay, yield as yield_call, startup, suspend as suspend_call, resume, kill, set_prio, sched_lock, sched_unlock, may_suspend};
+ghost use Rattle.rt_plain.specs.kernel.Effects.{name_of};
+ghost use Rattle.rt_plain.specs.kernel.State.{find_thread};
+ghost use Rattle.rt_plain.specs.kernel.Outcome.{ByThread, refusal, may_not_wait};
+ghost use Rattle.rt_plain.specs.kernel.ThreadCalls.{delay, yield as yield_call, startup, suspend as suspend_call, resume, kill, set_prio, sched_lock, sched_unlock, may_suspend};
 ghost use Rattle.rt_kernel.specs.Called.{called, plain_answer};
 ghost use Rattle.rt_kernel.specs.Limits.{limits_of};
 ghost use Rattle.rt_kernel.specs.Prio.{prio_called};

@@ -1,8 +1,8 @@
 ghost use Rattle.std.specs.Prelude.{◌≡◌, ◌+◌, ◌<◌, ◌≤◌, ◌^◌, ◌-◌, ◌++◌, length, Some, IfSome};
 ghost use Rattle.std.specs.Option.{option_map};
-ghost use Rattle.rt_plain.specs.State.{OfThread};
-ghost use Rattle.rt_plain.specs.Due.{due, timeout_effect};
-ghost use Rattle.rt_plain.specs.Ticks.{next_tick_state};
+ghost use Rattle.rt_plain.specs.kernel.State.{OfThread};
+ghost use Rattle.rt_plain.specs.kernel.Due.{due, timeout_effect};
+ghost use Rattle.rt_plain.specs.kernel.Ticks.{next_tick_state};
 ghost use Rattle.rt_kernel.specs.Due.{first_alarm, taken};
 ghost use Rattle.rt_kernel.specs.Limits.{limits_of};
 ghost use Rattle.rt_kernel.specs.View.{state_of};

@@ -1,8 +1,8 @@
 ghost use Rattle.std.specs.Prelude.{◌≡◌, ◌<◌, ◌≤◌, length, slice_get, Some};
-ghost use Rattle.rt_plain.specs.State.{is_running};
-ghost use Rattle.rt_plain.specs.Opening.{new_console};
-ghost use Rattle.rt_plain.specs.PowerCalls.{votes_for as plain_votes, sleep_mode};
-ghost use Rattle.rt_plain.specs.Rows.{rows as plain_rows, thread_row, device_row};
+ghost use Rattle.rt_plain.specs.kernel.State.{is_running};
+ghost use Rattle.rt_plain.specs.kernel.Opening.{new_console};
+ghost use Rattle.rt_plain.specs.kernel.PowerCalls.{votes_for as plain_votes, sleep_mode};
+ghost use Rattle.rt_plain.specs.kernel.Rows.{rows as plain_rows, thread_row, device_row};
 ghost use Rattle.rt_kernel.specs.Shown.{shown};
 ghost use Rattle.rt_kernel.specs.View.{state_of};
 

@@ -1,5 +1,5 @@
 ghost use Rattle.std.specs.Prelude.{◌≡◌, ◌≤◌, ◌++◌, [], length, take, drop, min, nat_lt, IfOk};
-ghost use Rattle.rt_plain.specs.DeviceCalls.{pushed_out_count, kept_bytes, fitting_front};
+ghost use Rattle.rt_plain.specs.kernel.DeviceCalls.{pushed_out_count, kept_bytes, fitting_front};
 
 use circular_buffer::HeapCircularBuffer;
 use std::alloc::{AllocError, Global};

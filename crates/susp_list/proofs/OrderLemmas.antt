@@ -3,7 +3,7 @@ use Rattle.std.proofs.Common.{ℕ, ◌≡◌, ◌≢◌, ◌+◌, List, [], ◌�
 use Rattle.std.proofs.lemmas.Bool.{false≢true}
 use Rattle.std.proofs.lemmas.Bool.Decides.{nat_tests}
 use Rattle.rt_base.specs.declared.codes.WaitOrder.{WaitOrder}
-use Rattle.rt_plain.specs.Waiting.{Waiter, stands_before, put_in_order, in_order}
+use Rattle.rt_plain.specs.kernel.Waiting.{Waiter, stands_before, put_in_order, in_order}
 use Rattle.susp_list.specs.Links.{threads_of}
 use Rattle.susp_list.proofs.LinkLemmas.{NotIn, Distinct}
 

@@ -4,7 +4,7 @@ use Rattle.std.proofs.lemmas.Bool.{cases_lt}
 use Rattle.std.proofs.lemmas.List.{append_assoc, append-nil, nil_from_length, length-map}
 use Rattle.std.proofs.lemmas.Option.{none-some, get_or_from_slice_get}
 use Rattle.rt_base.specs.declared.codes.WaitOrder.{WaitOrder}
-use Rattle.rt_plain.specs.Waiting.{Waiter, stands_before, put_in_order, in_order}
+use Rattle.rt_plain.specs.kernel.Waiting.{Waiter, stands_before, put_in_order, in_order}
 use Rattle.susp_list.specs.Rows.{Waits, waiters, line}
 use Rattle.susp_list.specs.Links.{IsRing, IsPlace, IsLinkedBack, threads_of, last_or}
 use Rattle.susp_list.proofs.LinkLemmas.{at_back, end_back}

@@ -7,7 +7,7 @@ use Rattle.std.proofs.lemmas.List.{map-append, set-set, length-map, append_assoc
 use Rattle.std.proofs.lemmas.List.FromFn.{length-range_with_len}
 use Rattle.std.proofs.lemmas.Option.{slice_get_within, slice_get_past, none-some, same_Some, get_or_from_slice_get, slice_get-get_or}
 use Rattle.rt_base.specs.declared.codes.WaitOrder.{WaitOrder}
-use Rattle.rt_plain.specs.Waiting.{Waiter, put_in_order, in_order, head_of}
+use Rattle.rt_plain.specs.kernel.Waiting.{Waiter, put_in_order, in_order, head_of}
 use Rattle.susp_list.specs.declared.row.Row.{Row}
 use Rattle.susp_list.specs.Rows.{Waits, waiter, waiter_of, waiters, line, is_waiting}
 use Rattle.susp_list.specs.Links.{IsRing, IsPlace, IsLinkedOn, IsLinkedBack, threads_of, first_or, last_or}

@@ -1,6 +1,6 @@
 -- A ring of links by thread number, with one more number, the root, between the last and the first.
 use Rattle.std.specs.Prelude.{ℕ, ◌≡◌, ◌+◌, List, [], ◌∷◌, ◌++◌, length, map, Some, slice_get}
-use Rattle.rt_plain.specs.Waiting.{Waiter, in_order, put_in_order}
+use Rattle.rt_plain.specs.kernel.Waiting.{Waiter, in_order, put_in_order}
 use Rattle.susp_list.specs.Rows.{Waits, waiters, line}
 
 -- each number from one end to the other is linked to the one behind it

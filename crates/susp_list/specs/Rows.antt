@@ -2,7 +2,7 @@
 use Rattle.std.specs.Prelude.{ℕ, Bool, true, false, List, length, Option, Some, None, slice_get}
 use Rattle.std.specs.List.{filter_map, range_with_len}
 use Rattle.rt_base.specs.declared.codes.WaitOrder.{WaitOrder}
-use Rattle.rt_plain.specs.Waiting.{Waiter, threads_in_order}
+use Rattle.rt_plain.specs.kernel.Waiting.{Waiter, threads_in_order}
 use Rattle.susp_list.specs.declared.row.Row.{Row}
 
 pub record Waits : Type 0 where

@@ -1,5 +1,5 @@
 ghost use Rattle.std.specs.Prelude.{ℕ, ◌≡◌, ◌≢◌, ◌<◌, ◌≤◌, ◌==◌, false, Some, None, List, ◌∷◌, ◌++◌, length, replicate, slice_get, slice_set, IfOk, IfSome, IsTrue, if◌then◌else◌};
-ghost use Rattle.rt_plain.specs.Waiting.{Waiter, first_of, second_of, head_of, stands_before};
+ghost use Rattle.rt_plain.specs.kernel.Waiting.{Waiter, first_of, second_of, head_of, stands_before};
 ghost use Rattle.susp_list.specs.Rows.{waiters, line, holds, waiter, waiter_of, with_prio};
 ghost use Rattle.susp_list.specs.Links.{IsPlace};
 ghost use Rattle.susp_list.specs.declared.row.Row.{Row};

@@ -1,6 +1,6 @@
 use Rattle.std.proofs.Common.{◌≡◌, ◌++◌, ◌∷◌, take}
 use Rattle.std.specs.List.{flat_map}
-use Rattle.rt_plain.specs.Tails.{event_text}
+use Rattle.rt_plain.specs.text.Tails.{event_text}
 use Rattle.board_show.proofs.lines.put_event_words.Given as goal
 
 abbrev pub invariant-loop-event : goal.invariant-loop-event

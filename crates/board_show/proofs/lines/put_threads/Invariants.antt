@@ -1,6 +1,6 @@
 use Rattle.std.proofs.Common.{◌≡◌, ◌++◌, take}
 use Rattle.std.specs.List.{flat_map}
-use Rattle.rt_plain.specs.Canon.{thread_lines}
+use Rattle.rt_plain.specs.text.Canon.{thread_lines}
 use Rattle.board_show.specs.Writing.{whole_lines}
 use Rattle.board_show.proofs.lines.put_threads.Given as goal
 

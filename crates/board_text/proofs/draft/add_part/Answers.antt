@@ -1,6 +1,6 @@
 use Rattle.std.proofs.Common.{sym, ap}
 use Rattle.rt_plain.specs.declared.board_line.BoardLine.{BoardLine}
-use Rattle.rt_plain.specs.BoardText.{SoFar, added}
+use Rattle.rt_plain.specs.text.BoardText.{SoFar, added}
 use Rattle.board_text.specs.declared.draft.Draft.{Draft}
 use Rattle.board_text.specs.Drafts.{so_far, board_of}
 use Rattle.board_text.proofs.draft.add_part.Goals as goal

@@ -1,6 +1,6 @@
 use Rattle.std.proofs.Common.{sym, ap}
 use Rattle.rt_plain.specs.declared.board_line.LimitClass.{LimitClass}
-use Rattle.rt_plain.specs.BoardText.{with_limit}
+use Rattle.rt_plain.specs.text.BoardText.{with_limit}
 use Rattle.board_text.proofs.draft.with_limit.Goals as goal
 
 pub returns-in-Sem : goal.returns-in-Sem

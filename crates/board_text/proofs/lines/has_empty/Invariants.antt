@@ -1,7 +1,7 @@
 use Rattle.std.proofs.Common.{◌≡◌, drop}
 use Rattle.std.specs.List.{list_any}
-use Rattle.rt_plain.specs.Splits.{is_empty}
-use Rattle.rt_plain.proofs.SplitLemmas.{nows}
+use Rattle.rt_plain.specs.text.Splits.{is_empty}
+use Rattle.rt_plain.proofs.text.SplitLemmas.{nows}
 use Rattle.board_text.proofs.lines.has_empty.Given as goal
 
 abbrev pub invariant-loop-word : goal.invariant-loop-word

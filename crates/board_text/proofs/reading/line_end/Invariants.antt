@@ -1,5 +1,5 @@
 use Rattle.std.proofs.Common.{take}
-use Rattle.rt_plain.proofs.SplitLemmas.{IsUnbroken}
+use Rattle.rt_plain.proofs.text.SplitLemmas.{IsUnbroken}
 use Rattle.board_text.proofs.reading.line_end.Given as goal
 
 abbrev pub invariant-loop-i : goal.invariant-loop-i

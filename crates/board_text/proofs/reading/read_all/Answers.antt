@@ -1,8 +1,8 @@
 use Rattle.std.proofs.lemmas.Bool.{ne_eqb}
 use Rattle.std.proofs.Common.{◌≡◌, ◌+◌, ◌-◌, ◌<◌, false, eqb, rules, length, take, drop, Ok, arith, sym, ap, ◌∙◌, List, ℕ, length-drop}
 use Rattle.rt_plain.specs.PlainBoard.{PlainBoard}
-use Rattle.rt_plain.specs.Splits.{lines_of}
-use Rattle.rt_plain.specs.BoardText.{outcome}
+use Rattle.rt_plain.specs.text.Splits.{lines_of}
+use Rattle.rt_plain.specs.text.BoardText.{outcome}
 use Rattle.board_text.specs.Drafts.{so_far}
 use Rattle.board_text.proofs.StepLemmas.{next_is, finished_is, finished_is_valid}
 use Rattle.board_text.proofs.reading.read_all.Goals as goal

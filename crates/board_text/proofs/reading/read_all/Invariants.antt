@@ -1,7 +1,7 @@
 use Rattle.std.proofs.Common.{◌≡◌, ◌≤◌, ◌+◌, length}
-use Rattle.rt_plain.specs.Splits.{lines_of}
-use Rattle.rt_plain.specs.BoardText.{outcome, reading}
-use Rattle.rt_plain.proofs.BoardLemmas.{IsSound}
+use Rattle.rt_plain.specs.text.Splits.{lines_of}
+use Rattle.rt_plain.specs.text.BoardText.{outcome, reading}
+use Rattle.rt_plain.proofs.text.BoardLemmas.{IsSound}
 use Rattle.board_text.specs.Drafts.{so_far}
 use Rattle.board_text.proofs.reading.read_all.Given as goal
 

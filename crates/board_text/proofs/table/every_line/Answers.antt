@@ -1,5 +1,5 @@
 use Rattle.std.proofs.Common.{refl}
-use Rattle.rt_plain.specs.LineTable.{all_lines}
+use Rattle.rt_plain.specs.text.LineTable.{all_lines}
 use Rattle.board_text.proofs.table.every_line.Goals as goal
 
 pub returns : goal.returns

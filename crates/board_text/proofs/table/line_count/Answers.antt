@@ -1,5 +1,5 @@
 use Rattle.std.proofs.Common.{length, sym, ap, arith}
-use Rattle.rt_plain.specs.LineTable.{row}
+use Rattle.rt_plain.specs.text.LineTable.{row}
 use Rattle.rt_plain.specs.declared.kind.Kind.{Kind}
 use Rattle.rt_plain.specs.declared.kind.LineKind.{LineKind}
 use Rattle.board_text.proofs.table.line_count.Goals as goal

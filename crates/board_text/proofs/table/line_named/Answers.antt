@@ -2,10 +2,10 @@ use Rattle.std.proofs.Common.{◌≡◌, ◌∙◌, true, false, get_or, length,
 use Rattle.std.specs.Prelude.{bytes_eq}
 use Rattle.std.specs.List.{find}
 use Rattle.rt_plain.specs.declared.kind.LineKind.{LineKind}
-use Rattle.rt_plain.specs.LineTable.{row, line_named}
+use Rattle.rt_plain.specs.text.LineTable.{row, line_named}
 use Rattle.rt_plain.specs.declared.kind.Kind.{Kind}
-use Rattle.rt_plain.proofs.StatementTableLemmas.{find_on, find_here, find_end}
-use Rattle.rt_plain.proofs.LineTableLemmas.{lines_count}
+use Rattle.rt_plain.proofs.text.StatementTableLemmas.{find_on, find_here, find_end}
+use Rattle.rt_plain.proofs.text.LineTableLemmas.{lines_count}
 use Rattle.board_text.proofs.table.line_named.Goals as goal
 
 pub loop-kind-preserved : goal.loop-kind-preserved

@@ -1,7 +1,7 @@
 use Rattle.std.proofs.Common.{◌≡◌, drop}
 use Rattle.std.specs.Prelude.{bytes_eq}
 use Rattle.std.specs.List.{find}
-use Rattle.rt_plain.specs.LineTable.{row}
+use Rattle.rt_plain.specs.text.LineTable.{row}
 use Rattle.rt_plain.specs.declared.kind.Kind.{Kind}
 use Rattle.board_text.proofs.table.line_named.Given as goal
 

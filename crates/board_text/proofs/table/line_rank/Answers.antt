@@ -1,5 +1,5 @@
 use Rattle.std.proofs.Common.{sym, ap}
-use Rattle.rt_plain.specs.LineTable.{row}
+use Rattle.rt_plain.specs.text.LineTable.{row}
 use Rattle.rt_plain.specs.declared.kind.Kind.{Kind}
 use Rattle.rt_plain.specs.declared.kind.LineKind.{LineKind}
 use Rattle.board_text.proofs.table.line_rank.Goals as goal

@@ -1,11 +1,11 @@
 use Rattle.std.proofs.Common.{ℕ, ◌∙◌, refl, sym, ap, subst, rules}
-use Rattle.rt_plain.specs.Splits.{word_at}
-use Rattle.rt_plain.specs.Fields.{number_in}
+use Rattle.rt_plain.specs.text.Splits.{word_at}
+use Rattle.rt_plain.specs.text.Fields.{number_in}
 use Rattle.rt_plain.specs.declared.kind.LineKind.{LineKind}
-use Rattle.rt_plain.proofs.SplitLemmas.{nows}
-use Rattle.rt_plain.specs.LineTable.{line_in}
+use Rattle.rt_plain.proofs.text.SplitLemmas.{nows}
+use Rattle.rt_plain.specs.text.LineTable.{line_in}
 use Rattle.board_text.specs.Gives.{Gives}
-use Rattle.rt_plain.proofs.RowLemmas.{both-same, board-line-read}
+use Rattle.rt_plain.proofs.text.RowLemmas.{both-same, board-line-read}
 use Rattle.board_text.proofs.table.read_line.Goals as goal
 
 pub returns-in-Ok : goal.returns-in-Ok

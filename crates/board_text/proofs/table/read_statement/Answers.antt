@@ -1,9 +1,9 @@
 use Rattle.std.proofs.Common.{ℕ, ◌∙◌, refl, ap}
-use Rattle.rt_plain.specs.Splits.{word_at}
-use Rattle.rt_plain.specs.Fields.{number_in}
+use Rattle.rt_plain.specs.text.Splits.{word_at}
+use Rattle.rt_plain.specs.text.Fields.{number_in}
 use Rattle.rt_plain.specs.declared.kind.StatementKind.{StatementKind}
-use Rattle.rt_plain.proofs.SplitLemmas.{nows}
-use Rattle.rt_plain.proofs.RowLemmas.{both-same, statement-read}
+use Rattle.rt_plain.proofs.text.SplitLemmas.{nows}
+use Rattle.rt_plain.proofs.text.RowLemmas.{both-same, statement-read}
 use Rattle.board_text.proofs.table.read_statement.Goals as goal
 
 pub returns-in-Ok : goal.returns-in-Ok

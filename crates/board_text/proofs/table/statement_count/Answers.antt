@@ -1,5 +1,5 @@
 use Rattle.std.proofs.Common.{sym, ap, arith}
-use Rattle.rt_plain.specs.StatementTable.{statement_count}
+use Rattle.rt_plain.specs.text.StatementTable.{statement_count}
 use Rattle.rt_plain.specs.declared.kind.StatementKind.{StatementKind}
 use Rattle.board_text.proofs.table.statement_count.Goals as goal
 

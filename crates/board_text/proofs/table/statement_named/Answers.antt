@@ -2,8 +2,8 @@ use Rattle.std.proofs.Common.{◌≡◌, ◌∙◌, true, false, get_or, length,
 use Rattle.std.specs.Prelude.{bytes_eq}
 use Rattle.std.specs.List.{find}
 use Rattle.rt_plain.specs.declared.kind.StatementKind.{StatementKind}
-use Rattle.rt_plain.specs.StatementTable.{statement_word, statement_named}
-use Rattle.rt_plain.proofs.StatementTableLemmas.{find_on, find_here, find_end, statements_count}
+use Rattle.rt_plain.specs.text.StatementTable.{statement_word, statement_named}
+use Rattle.rt_plain.proofs.text.StatementTableLemmas.{find_on, find_here, find_end, statements_count}
 use Rattle.board_text.proofs.table.statement_named.Goals as goal
 
 pub loop-kind-preserved : goal.loop-kind-preserved

@@ -1,7 +1,7 @@
 use Rattle.std.proofs.Common.{◌≡◌, drop}
-use Rattle.rt_plain.specs.Tails.{events_in}
-use Rattle.rt_plain.proofs.SplitLemmas.{nows}
-use Rattle.rt_plain.proofs.TailLemmas.{fronted}
+use Rattle.rt_plain.specs.text.Tails.{events_in}
+use Rattle.rt_plain.proofs.text.SplitLemmas.{nows}
+use Rattle.rt_plain.proofs.text.TailLemmas.{fronted}
 use Rattle.board_text.proofs.tails.read_events.Given as goal
 
 abbrev pub invariant-loop-word : goal.invariant-loop-word

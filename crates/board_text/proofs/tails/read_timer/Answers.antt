@@ -1,4 +1,4 @@
-use Rattle.rt_plain.specs.LineTable.{line_in}
+use Rattle.rt_plain.specs.text.LineTable.{line_in}
 use Rattle.board_text.proofs.tails.read_timer.Goals as goal
 
 pub returns-in-Err : goal.returns-in-Err

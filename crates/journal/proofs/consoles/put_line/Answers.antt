@@ -1,6 +1,6 @@
 use Rattle.std.proofs.Common.{ℕ, List, ◌++◌, ◌∙◌, sym, ap}
 use Rattle.std.proofs.lemmas.Result.{on_ok_weaker}
-use Rattle.rt_plain.specs.Texts.{printed_by}
+use Rattle.rt_plain.specs.text.Texts.{printed_by}
 use Rattle.journal.proofs.ConsoleLemmas.{nothing-printed}
 use Rattle.journal.proofs.consoles.put_line.Goals as goal
 

@@ -1,6 +1,6 @@
 use Rattle.std.proofs.Common.{◌≡◌, ◌++◌, take}
 use Rattle.std.specs.List.{flat_map}
-use Rattle.rt_plain.specs.Texts.{printed_by}
+use Rattle.rt_plain.specs.text.Texts.{printed_by}
 use Rattle.journal.proofs.consoles.put_printed.Given as goal
 
 abbrev pub invariant-loop-line : goal.invariant-loop-line

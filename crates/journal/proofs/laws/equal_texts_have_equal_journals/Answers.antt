@@ -1,4 +1,4 @@
-use Rattle.rt_plain.proofs.TraceLemmas.{same-journal}
+use Rattle.rt_plain.proofs.text.TraceLemmas.{same-journal}
 use Rattle.journal.proofs.laws.equal_texts_have_equal_journals.Goals as goal
 
 pub returns : goal.returns

@@ -1,4 +1,4 @@
-use Rattle.rt_plain.proofs.TraceLemmas.{events-told}
+use Rattle.rt_plain.proofs.text.TraceLemmas.{events-told}
 use Rattle.journal.proofs.laws.texts_tell_their_events.Goals as goal
 
 pub returns : goal.returns

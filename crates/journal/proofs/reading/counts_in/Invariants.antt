@@ -1,5 +1,5 @@
 use Rattle.std.proofs.Common.{◌≡◌, drop, map}
-use Rattle.rt_plain.specs.TraceRows.{are_counts, counts_in}
+use Rattle.rt_plain.specs.text.TraceRows.{are_counts, counts_in}
 use Rattle.journal.proofs.reading.counts_in.Given as goal
 
 abbrev pub invariant-loop-word : goal.invariant-loop-word

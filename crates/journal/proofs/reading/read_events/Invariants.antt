@@ -1,5 +1,5 @@
 use Rattle.std.proofs.Common.{◌≡◌, ◌≤◌, ◌++◌, length}
-use Rattle.rt_plain.specs.TraceRows.{whole_lines_of, events_in, events_told}
+use Rattle.rt_plain.specs.text.TraceRows.{whole_lines_of, events_in, events_told}
 use Rattle.journal.proofs.reading.read_events.Given as goal
 
 -- the events so far and those of what is left are all

@@ -1,5 +1,5 @@
 use Rattle.std.proofs.Common.{refl}
-use Rattle.rt_plain.specs.TraceRows.{all_trace_kinds}
+use Rattle.rt_plain.specs.text.TraceRows.{all_trace_kinds}
 use Rattle.journal.proofs.rows.every_kind.Goals as goal
 
 pub returns : goal.returns

@@ -1,9 +1,9 @@
 use Rattle.std.proofs.Common.{◌∙◌, refl, sym, ap}
-use Rattle.rt_plain.specs.Fields.{result_map}
-use Rattle.rt_plain.specs.TraceRows.{line_made, line_in}
+use Rattle.rt_plain.specs.text.Fields.{result_map}
+use Rattle.rt_plain.specs.text.TraceRows.{line_made, line_in}
 use Rattle.rt_plain.specs.declared.kind.TraceKind.{TraceKind}
-use Rattle.rt_plain.proofs.SplitLemmas.{nows}
-use Rattle.rt_plain.proofs.RowLemmas.{both-same, line-read}
+use Rattle.rt_plain.proofs.text.SplitLemmas.{nows}
+use Rattle.rt_plain.proofs.text.RowLemmas.{both-same, line-read}
 use Rattle.journal.proofs.rows.read_line.Goals as goal
 
 pub returns-in-Ok : goal.returns-in-Ok

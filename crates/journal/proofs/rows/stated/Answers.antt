@@ -1,5 +1,5 @@
 use Rattle.std.proofs.Common.{◌∙◌, refl}
-use Rattle.rt_plain.proofs.RowLemmas.{both-same}
+use Rattle.rt_plain.proofs.text.RowLemmas.{both-same}
 use Rattle.journal.proofs.rows.stated.Goals as goal
 
 pub returns : goal.returns

@@ -2,9 +2,9 @@ use Rattle.std.proofs.Common.{◌≡◌, ◌∙◌, true, false, get_or, length,
 use Rattle.std.specs.Prelude.{bytes_eq}
 use Rattle.std.specs.List.{find}
 use Rattle.rt_plain.specs.declared.kind.TraceKind.{TraceKind}
-use Rattle.rt_plain.specs.TraceRows.{trace_word, trace_named}
-use Rattle.rt_plain.proofs.StatementTableLemmas.{find_on, find_here, find_end}
-use Rattle.rt_plain.proofs.TraceLemmas.{kinds-count}
+use Rattle.rt_plain.specs.text.TraceRows.{trace_word, trace_named}
+use Rattle.rt_plain.proofs.text.StatementTableLemmas.{find_on, find_here, find_end}
+use Rattle.rt_plain.proofs.text.TraceLemmas.{kinds-count}
 use Rattle.journal.proofs.rows.trace_named.Goals as goal
 
 pub loop-kind-preserved : goal.loop-kind-preserved

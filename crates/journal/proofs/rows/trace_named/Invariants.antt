@@ -1,7 +1,7 @@
 use Rattle.std.proofs.Common.{◌≡◌, drop}
 use Rattle.std.specs.Prelude.{bytes_eq}
 use Rattle.std.specs.List.{find}
-use Rattle.rt_plain.specs.TraceRows.{trace_word}
+use Rattle.rt_plain.specs.text.TraceRows.{trace_word}
 use Rattle.journal.proofs.rows.trace_named.Given as goal
 
 abbrev pub invariant-loop-kind : goal.invariant-loop-kind

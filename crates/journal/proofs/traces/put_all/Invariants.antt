@@ -1,5 +1,5 @@
 use Rattle.std.proofs.Common.{◌≡◌, ◌++◌, ◌+◌, length, drop}
-use Rattle.rt_plain.specs.Texts.{entries_text}
+use Rattle.rt_plain.specs.text.Texts.{entries_text}
 use Rattle.journal.specs.Headers.{entries_of, lines_in}
 use Rattle.journal.proofs.traces.put_all.Given as goal
 

@@ -1,6 +1,6 @@
 use Rattle.std.proofs.Common.{◌≡◌, ◌++◌, take}
 use Rattle.std.specs.List.{flat_map}
-use Rattle.rt_plain.specs.Texts.{escape_of}
+use Rattle.rt_plain.specs.text.Texts.{escape_of}
 use Rattle.journal.proofs.writing.put_escapes.Given as goal
 
 abbrev pub invariant-loop-byte : goal.invariant-loop-byte

@@ -1,5 +1,5 @@
 use Rattle.std.proofs.Common.{◌≡◌, arith, sym, ap, ◌∙◌}
-use Rattle.rt_plain.specs.State.{State, running_on}
+use Rattle.rt_plain.specs.kernel.State.{State, running_on}
 use Rattle.kernel_step.proofs.StepLemmas.{unmarked-runs, unmarked-numbers, switch-gives, goes-gives, rests-gives, still-state, still-lines}
 use Rattle.kernel_step.proofs.engine.core_step.Goals as goal
 

@@ -1,5 +1,5 @@
 use Rattle.std.specs.Prelude.{◌≡◌, length}
-use Rattle.rt_plain.specs.Due.{due}
+use Rattle.rt_plain.specs.kernel.Due.{due}
 use Rattle.kernel_step.specs.Firing.{IsFiring}
 use Rattle.kernel_step.proofs.engine.fire_due.Given as goal
 

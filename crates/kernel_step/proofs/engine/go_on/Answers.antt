@@ -1,7 +1,7 @@
 use Rattle.std.proofs.Common.{◌≡◌, ◌∙◌, ◌++◌, false, List, ap, refl, sym, subst}
 use Rattle.rt_plain.specs.declared.line.Line.{Line}
-use Rattle.rt_plain.specs.Schedules.{is_sleep}
-use Rattle.rt_plain.specs.Statements.{statement_effect}
+use Rattle.rt_plain.specs.runs.Schedules.{is_sleep}
+use Rattle.rt_plain.specs.kernel.Statements.{statement_effect}
 use Rattle.kernel_step.proofs.StepLemmas.{states_awake}
 use Rattle.kernel_step.proofs.engine.go_on.Goals as goal
 

@@ -1,7 +1,7 @@
 use Rattle.std.proofs.Common.{◌≡◌, ◌∙◌, refl, sym, subst, false, true}
 use Rattle.rt_plain.specs.PlainBoard.{PlainBoard}
-use Rattle.rt_plain.specs.Runs.{is_over}
-use Rattle.rt_plain.specs.Schedules.{is_stopped}
+use Rattle.rt_plain.specs.runs.Runs.{is_over}
+use Rattle.rt_plain.specs.runs.Schedules.{is_stopped}
 use Rattle.kernel_step.proofs.RunnerLemmas.{on_way-opened, on_way-turn, on_way-stopped, going}
 use Rattle.kernel_step.proofs.runner.drive.Goals as goal
 

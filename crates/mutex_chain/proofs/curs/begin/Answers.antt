@@ -1,6 +1,6 @@
 use Rattle.std.proofs.Common.{rules}
 use Rattle.std.proofs.lemmas.List.FromFn.{fill_by_all}
-use Rattle.rt_plain.specs.Ownership.{member_urgency}
+use Rattle.rt_plain.specs.kernel.Ownership.{member_urgency}
 use Rattle.mutex_chain.specs.Walks.{urgencies_of}
 use Rattle.mutex_chain.proofs.curs.begin.Goals as goal
 

@@ -1,5 +1,5 @@
 use Rattle.std.proofs.Common.{ℕ, ◌≡◌, ◌<◌, length, get_or}
-use Rattle.rt_plain.specs.Ownership.{member_urgency}
+use Rattle.rt_plain.specs.kernel.Ownership.{member_urgency}
 use Rattle.mutex_chain.proofs.curs.begin.Given as goal
 
 abbrev pub invariant-loop-t : goal.invariant-loop-t

@@ -1,6 +1,6 @@
 use Rattle.std.proofs.Common.{◌≡◌, ◌-◌, length}
 use Rattle.std.specs.List.{range_with_len}
-use Rattle.rt_plain.specs.Ownership.{member_urgency}
+use Rattle.rt_plain.specs.kernel.Ownership.{member_urgency}
 use Rattle.mutex_chain.specs.Owners.{blocker_in}
 use Rattle.mutex_chain.specs.Walks.{all_carried, curs_of}
 use Rattle.mutex_chain.proofs.curs.compute.Given as goal

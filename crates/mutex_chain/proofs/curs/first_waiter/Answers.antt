@@ -2,9 +2,9 @@ use Rattle.std.proofs.Common.{arith, ◌≡◌, ◌+◌, ◌-◌, ◌<◌, Some,
 use Rattle.std.specs.Prelude.{slice_index}
 use Rattle.std.specs.Option.{option_map}
 use Rattle.rt_base.specs.declared.codes.WaitOrder.{WaitOrder}
-use Rattle.rt_plain.specs.Waiting.{in_order, Waiter}
+use Rattle.rt_plain.specs.kernel.Waiting.{in_order, Waiter}
 use Rattle.mutex_chain.specs.Walks.{curs_of}
-use Rattle.rt_plain.specs.Ownership.{wait_of, wait_rows_in}
+use Rattle.rt_plain.specs.kernel.Ownership.{wait_of, wait_rows_in}
 use Rattle.mutex_chain.specs.Graph.{waiter_with, sooner_of}
 use Rattle.mutex_chain.proofs.CurLemmas.{length-curs}
 use Rattle.mutex_chain.proofs.FirstLemmas.{first_waiter, first_step, none_step, rows_end, rows_all, rows_from, first_head, sooner_within, waiter_thread}

@@ -1,7 +1,7 @@
 use Rattle.std.proofs.Common.{◌≡◌, ◌<◌, ◌≤◌, length}
 use Rattle.std.specs.Prelude.{IfSome}
 use Rattle.rt_base.specs.declared.codes.WaitOrder.{WaitOrder}
-use Rattle.rt_plain.specs.Waiting.{in_order}
+use Rattle.rt_plain.specs.kernel.Waiting.{in_order}
 use Rattle.mutex_chain.proofs.FirstLemmas.{first_waiter, rows_from}
 use Rattle.mutex_chain.proofs.curs.first_waiter.Given as goal
 

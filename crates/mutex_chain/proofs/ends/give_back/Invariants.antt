@@ -1,5 +1,5 @@
 use Rattle.std.proofs.Common.{length}
-use Rattle.rt_plain.specs.Ownership.{owned_in}
+use Rattle.rt_plain.specs.kernel.Ownership.{owned_in}
 use Rattle.mutex_chain.proofs.PassLemmas.{IsPassing}
 use Rattle.mutex_chain.proofs.ends.give_back.Given as goal
 

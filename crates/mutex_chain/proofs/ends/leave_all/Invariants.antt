@@ -1,5 +1,5 @@
 use Rattle.std.proofs.Common.{◌≡◌, length, drop}
-use Rattle.rt_plain.specs.Ownership.{leave_edits}
+use Rattle.rt_plain.specs.kernel.Ownership.{leave_edits}
 use Rattle.mutex_chain.proofs.ends.leave_all.Given as goal
 
 abbrev pub invariant-loop-i : goal.invariant-loop-i

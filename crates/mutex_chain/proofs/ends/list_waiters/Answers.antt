@@ -1,7 +1,7 @@
 use Rattle.std.proofs.Common.{arith, ◌≡◌, ◌+◌, ◌-◌, ◌<◌, Some, None, ◌∙◌, sym, ap, length, refl}
 use Rattle.std.specs.Prelude.{slice_index}
 use Rattle.std.specs.List.{insert}
-use Rattle.rt_plain.specs.Ownership.{wait_of}
+use Rattle.rt_plain.specs.kernel.Ownership.{wait_of}
 use Rattle.mutex_chain.specs.Graph.{place_of, row_in, waiter_with, WokenList}
 use Rattle.mutex_chain.specs.Walks.{curs_of}
 use Rattle.mutex_chain.proofs.CurLemmas.{length-curs}

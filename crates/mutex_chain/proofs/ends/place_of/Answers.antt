@@ -1,6 +1,6 @@
 use Rattle.std.proofs.Common.{arith, ◌≡◌, ◌+◌, ◌<◌, ◌∙◌, sym, ap, length, drop, true, false, cond, suc}
 use Rattle.std.specs.Prelude.{slice_index}
-use Rattle.rt_plain.specs.Ownership.{wait_of}
+use Rattle.rt_plain.specs.kernel.Ownership.{wait_of}
 use Rattle.mutex_chain.specs.Graph.{place_of, row_in, goes_before, waiter_with}
 use Rattle.mutex_chain.proofs.CurLemmas.{length-curs}
 use Rattle.mutex_chain.proofs.FirstLemmas.{row_by_number}

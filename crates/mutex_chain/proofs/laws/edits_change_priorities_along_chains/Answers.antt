@@ -1,5 +1,5 @@
 use Rattle.std.proofs.Common.{Some, None}
-use Rattle.rt_plain.specs.Ownership.{with_base, with_wait}
+use Rattle.rt_plain.specs.kernel.Ownership.{with_base, with_wait}
 use Rattle.mutex_chain.proofs.TouchLemmas.{touched_cur, touches_member, touches_take, touches_release, touches_ceiling, touches_mutex_end, touches_thread_end}
 use Rattle.mutex_chain.proofs.laws.edits_change_priorities_along_chains.Goals as goal
 

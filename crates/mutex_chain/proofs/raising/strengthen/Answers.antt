@@ -4,7 +4,7 @@ use Rattle.std.specs.List.{sum_by}
 use Rattle.std.proofs.lemmas.List.Sums.{sum_by-set}
 use Rattle.std.proofs.lemmas.Grind.{get_or_default_zero}
 use Rattle.std.proofs.lemmas.Option.{none-some}
-use Rattle.rt_plain.specs.Ownership.{changes}
+use Rattle.rt_plain.specs.kernel.Ownership.{changes}
 use Rattle.mutex_chain.specs.Graph.{ChangeList, changed_at}
 use Rattle.mutex_chain.specs.Walks.{curs_of}
 use Rattle.mutex_chain.specs.Raising.{IsRaising, AreRaised, LeadsTo, listed, put_change}

@@ -1,6 +1,6 @@
 use Rattle.std.proofs.Common.{◌≡◌, ℕ, Bool, true, false, Some, None, min, cond, unwrap_or, refl, sym, ap, ◌∙◌}
 use Rattle.std.specs.Bool.{then_some}
-use Rattle.rt_plain.specs.LpClock.{ticks_ahead}
+use Rattle.rt_plain.specs.kernel.LpClock.{ticks_ahead}
 use Rattle.pm_core.specs.Moments.{long_enough}
 use Rattle.pm_core.proofs.Lengths.{length_to-computed}
 use Rattle.pm_core.proofs.timing.length.Goals as goal

@@ -1,5 +1,5 @@
 use Rattle.std.proofs.Common.{subst}
-use Rattle.rt_plain.specs.Canon.{IsValid}
+use Rattle.rt_plain.specs.text.Canon.{IsValid}
 use Rattle.rt_kernel.proofs.BuiltLemmas.{built}
 use Rattle.rt_kernel.proofs.built.built_facts.Goals as goal
 

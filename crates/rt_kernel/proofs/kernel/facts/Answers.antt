@@ -1,8 +1,8 @@
 use Rattle.std.proofs.Common.{◌≡◌, ◌≤◌, ◌<◌, length, arith, Option, Some, None, ℕ, IfSome, refl}
-use Rattle.rt_plain.specs.State.{State, thread_at}
+use Rattle.rt_plain.specs.kernel.State.{State, thread_at}
 use Rattle.rt_plain.specs.PlainBoard.{PlainBoard}
-use Rattle.rt_plain.specs.Runs.{thread_count}
-use Rattle.rt_plain.proofs.TickCosts.{armed-few}
+use Rattle.rt_plain.specs.runs.Runs.{thread_count}
+use Rattle.rt_plain.proofs.kernel.TickCosts.{armed-few}
 use Rattle.rt_kernel.specs.Built.{IsBuilt}
 use Rattle.rt_kernel.specs.Inside.{frame_of}
 use Rattle.rt_kernel.specs.View.{state_of}

@@ -1,6 +1,6 @@
 use Rattle.std.proofs.Common.{◌≡◌, ◌≤◌, length, take, map}
 use Rattle.std.specs.Prelude.{vec_len, vec_capacity}
-use Rattle.rt_plain.specs.Opening.{new_script_thread}
+use Rattle.rt_plain.specs.kernel.Opening.{new_script_thread}
 use Rattle.rt_kernel.specs.Threads.{plain_thread}
 use Rattle.rt_kernel.proofs.open.rows_of.Given as goal
 

@@ -1,5 +1,5 @@
 use Rattle.std.proofs.Common.{ℕ, List, Bool, not, ◌++◌, ◌∷◌, [], length, arith, ap, sym, ◌∙◌}
-use Rattle.rt_plain.specs.State.{is_initial}
+use Rattle.rt_plain.specs.kernel.State.{is_initial}
 use Rattle.rt_kernel.specs.Threads.{row_at}
 use Rattle.rt_kernel.proofs.OpenLemmas.{length_passes, filter_passes, filter_fails}
 use Rattle.rt_kernel.proofs.open.start.Goals.{then-not-is_initial, else-not-is_initial}

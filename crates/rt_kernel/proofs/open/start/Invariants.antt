@@ -1,6 +1,6 @@
 use Rattle.std.proofs.Common.{◌≡◌, filter, not}
 use Rattle.std.specs.List.{range_with_len}
-use Rattle.rt_plain.specs.State.{is_initial}
+use Rattle.rt_plain.specs.kernel.State.{is_initial}
 use Rattle.rt_kernel.specs.Threads.{row_at}
 use Rattle.rt_kernel.proofs.open.start.Given as goal
 

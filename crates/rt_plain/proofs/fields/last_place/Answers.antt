@@ -1,6 +1,6 @@
 use Rattle.std.proofs.Common.{◌≡◌, ◌+◌, ◌-◌, ℕ, drop, get_or, subst, sym, arith}
 use Rattle.std.proofs.lemmas.Bool.{eq-eqb}
-use Rattle.rt_plain.proofs.FieldLemmas.{IsWithout, last_found}
+use Rattle.rt_plain.proofs.text.FieldLemmas.{IsWithout, last_found}
 use Rattle.rt_plain.proofs.fields.last_place.Goals as goal
 
 pub returns-then-word-rest : goal.returns-then-word-rest

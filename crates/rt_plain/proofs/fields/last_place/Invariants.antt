@@ -1,5 +1,5 @@
 use Rattle.std.proofs.Common.{◌≤◌, drop, length}
-use Rattle.rt_plain.proofs.FieldLemmas.{IsWithout}
+use Rattle.rt_plain.proofs.text.FieldLemmas.{IsWithout}
 use Rattle.rt_plain.proofs.fields.last_place.Given as goal
 
 abbrev pub invariant-loop-rest : goal.invariant-loop-rest

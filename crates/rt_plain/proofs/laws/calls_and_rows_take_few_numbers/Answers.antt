@@ -1,8 +1,8 @@
 use Rattle.rt_plain.proofs.laws.calls_and_rows_take_few_numbers.Goals as goal
-use Rattle.rt_plain.proofs.RoomLemmas.{has-few}
-use Rattle.rt_plain.proofs.CallCosts.{call-numbers}
-use Rattle.rt_plain.proofs.WorkCosts.{soft-numbers}
-use Rattle.rt_plain.proofs.FireLemmas.{fire-numbers}
+use Rattle.rt_plain.proofs.runs.RoomLemmas.{has-few}
+use Rattle.rt_plain.proofs.kernel.CallCosts.{call-numbers}
+use Rattle.rt_plain.proofs.kernel.WorkCosts.{soft-numbers}
+use Rattle.rt_plain.proofs.kernel.FireLemmas.{fire-numbers}
 
 pub returns : goal.returns
 returns c = record {

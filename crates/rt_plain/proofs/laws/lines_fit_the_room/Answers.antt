@@ -1,5 +1,5 @@
 use Rattle.rt_plain.proofs.laws.lines_fit_the_room.Goals as goal
-use Rattle.rt_plain.proofs.RoomLemmas.{lines-fit}
+use Rattle.rt_plain.proofs.runs.RoomLemmas.{lines-fit}
 
 pub returns : goal.returns
 returns c = lines-fit

@@ -1,6 +1,6 @@
 use Rattle.rt_plain.proofs.laws.rows_and_arrivals_show_few_lines.Goals as goal
-use Rattle.rt_plain.proofs.RoomLemmas.{has-few}
-use Rattle.rt_plain.proofs.FireLemmas.{fire-lines, arrival-lines}
+use Rattle.rt_plain.proofs.runs.RoomLemmas.{has-few}
+use Rattle.rt_plain.proofs.kernel.FireLemmas.{fire-lines, arrival-lines}
 
 pub returns : goal.returns
 returns c = record {

@@ -1,7 +1,7 @@
 use Rattle.rt_plain.proofs.laws.rows_are_read_back.Goals as goal
 use Rattle.std.proofs.Common.{◌∙◌, sym, ap}
-use Rattle.rt_plain.specs.TraceRows.{trace_rows, whole_lines_of}
-use Rattle.rt_plain.proofs.TraceLemmas.{trace-text, lines-rows, written-trace, rows-all}
+use Rattle.rt_plain.specs.text.TraceRows.{trace_rows, whole_lines_of}
+use Rattle.rt_plain.proofs.text.TraceLemmas.{trace-text, lines-rows, written-trace, rows-all}
 
 pub returns : goal.returns
 returns c = record {

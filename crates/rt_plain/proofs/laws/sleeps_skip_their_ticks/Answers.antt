@@ -1,5 +1,5 @@
 use Rattle.rt_plain.proofs.laws.sleeps_skip_their_ticks.Goals as goal
-use Rattle.rt_plain.proofs.SkipLemmas.{skipped-ticks}
+use Rattle.rt_plain.proofs.kernel.SkipLemmas.{skipped-ticks}
 
 pub returns : goal.returns
 returns c = skipped-ticks

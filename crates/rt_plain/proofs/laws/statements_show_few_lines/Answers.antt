@@ -1,7 +1,7 @@
 use Rattle.rt_plain.proofs.laws.statements_show_few_lines.Goals as goal
 use Rattle.std.proofs.Common.{arith}
-use Rattle.rt_plain.proofs.RoomLemmas.{has-few}
-use Rattle.rt_plain.proofs.StatementCosts.{script-lines, soft-lines, close-lines}
+use Rattle.rt_plain.proofs.runs.RoomLemmas.{has-few}
+use Rattle.rt_plain.proofs.kernel.StatementCosts.{script-lines, soft-lines, close-lines}
 
 pub returns : goal.returns
 returns c = record {

@@ -1,5 +1,5 @@
 use Rattle.rt_plain.proofs.laws.timers_are_the_boards.Goals as goal
-use Rattle.rt_plain.proofs.SoundLemmas.{reached-timers, reached-may}
+use Rattle.rt_plain.proofs.kernel.SoundLemmas.{reached-timers, reached-may}
 
 pub returns : goal.returns
 returns c = record { same = reached-timers; may = reached-may }

@@ -1,5 +1,5 @@
 use Rattle.std.proofs.Common.{◌≡◌, ◌<◌, ◌^◌, drop}
-use Rattle.rt_plain.specs.Fields.{read_on}
+use Rattle.rt_plain.specs.text.Fields.{read_on}
 use Rattle.rt_plain.proofs.numbers.moment_value_of.Given as goal
 
 abbrev pub invariant-loop-b : goal.invariant-loop-b

@@ -1,5 +1,5 @@
 use Rattle.std.proofs.Common.{arith}
-use Rattle.rt_plain.proofs.NumberLemmas.{read_past}
+use Rattle.rt_plain.proofs.text.NumberLemmas.{read_past}
 use Rattle.rt_plain.proofs.numbers.value_of.Goals as goal
 
 pub returns-then-more-from : goal.returns-then-more-from

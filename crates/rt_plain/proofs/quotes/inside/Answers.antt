@@ -1,6 +1,6 @@
 use Rattle.std.proofs.Common.{◌∙◌, ◌∷◌, [], length-append, sym, subst, arith}
-use Rattle.rt_plain.specs.Fields.{IsGoodStep}
-use Rattle.rt_plain.proofs.QuoteLemmas.{on_to, on_byte}
+use Rattle.rt_plain.specs.text.Fields.{IsGoodStep}
+use Rattle.rt_plain.proofs.text.QuoteLemmas.{on_to, on_byte}
 use Rattle.rt_plain.proofs.quotes.inside.Goals as goal
 use Rattle.rt_plain.proofs.quotes.inside.Goals.{in-To, in-Byte+else-len-eq64}
 

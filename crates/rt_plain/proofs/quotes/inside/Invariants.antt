@@ -1,7 +1,7 @@
 use Rattle.std.proofs.Common.{◌≡◌, ◌≤◌, drop, length}
-use Rattle.rt_plain.specs.Fields.{unquoted, IsGood}
+use Rattle.rt_plain.specs.text.Fields.{unquoted, IsGood}
 use Rattle.rt_plain.specs.declared.quote.Quoting.TheVariants.{Plain}
-use Rattle.rt_plain.proofs.QuoteLemmas.{fronted}
+use Rattle.rt_plain.proofs.text.QuoteLemmas.{fronted}
 use Rattle.rt_plain.proofs.quotes.inside.Given as goal
 
 abbrev pub invariant-loop-i : goal.invariant-loop-i

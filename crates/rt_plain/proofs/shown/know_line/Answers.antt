@@ -1,4 +1,4 @@
-use Rattle.rt_plain.specs.TraceRows.{CanShow}
+use Rattle.rt_plain.specs.text.TraceRows.{CanShow}
 use Rattle.rt_plain.proofs.shown.know_line.Goals as goal
 
 pub returns-in-Run : goal.returns-in-Run

@@ -1,4 +1,4 @@
-use Rattle.rt_plain.proofs.SplitLemmas.{nows_rest}
+use Rattle.rt_plain.proofs.text.SplitLemmas.{nows_rest}
 use Rattle.rt_plain.proofs.words.behind.Goals as goal
 
 pub returns-then-first-words : goal.returns-then-first-words

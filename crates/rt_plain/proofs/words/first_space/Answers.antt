@@ -1,6 +1,6 @@
 use Rattle.std.proofs.Common.{get_or, arith}
 use Rattle.std.proofs.lemmas.Bool.{ne_eqb}
-use Rattle.rt_plain.proofs.SplitLemmas.{solid_more}
+use Rattle.rt_plain.proofs.text.SplitLemmas.{solid_more}
 use Rattle.rt_plain.proofs.words.first_space.Goals as goal
 
 pub loop-i-preserved : goal.loop-i-preserved

@@ -1,5 +1,5 @@
 use Rattle.std.proofs.Common.{take}
-use Rattle.rt_plain.proofs.SplitLemmas.{IsSolid, IsUnquoted}
+use Rattle.rt_plain.proofs.text.SplitLemmas.{IsSolid, IsUnquoted}
 use Rattle.rt_plain.proofs.words.first_space.Given as goal
 
 abbrev pub invariant-loop-i : goal.invariant-loop-i

@@ -1,5 +1,5 @@
 use Rattle.std.proofs.Common.{◌≡◌, ◌≤◌, ◌++◌, length, map, true}
-use Rattle.rt_plain.specs.Splits.{words_from}
+use Rattle.rt_plain.specs.text.Splits.{words_from}
 use Rattle.rt_plain.proofs.words.words_of.Given as goal
 
 abbrev pub invariant-loop-place : goal.invariant-loop-place

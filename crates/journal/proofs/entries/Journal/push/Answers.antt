@@ -1,7 +1,7 @@
 use Rattle.std.proofs.Common.{length, arith, ap}
 use Rattle.std.proofs.lemmas.List.{length-append}
 use Rattle.std.proofs.lemmas.List.Elements.{All-push, All-append}
-use Rattle.rt_plain.specs.TraceRows.{CanShow}
+use Rattle.rt_plain.specs.text.TraceRows.{CanShow}
 use Rattle.journal.specs.Headers.{CanHead}
 use Rattle.journal.proofs.HeaderLemmas.{entries_of-push, StandFrom-push, lines_in-push}
 use Rattle.journal.proofs.entries.Journal.push.Goals as goal

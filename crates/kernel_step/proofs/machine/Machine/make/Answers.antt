@@ -1,6 +1,6 @@
 use Rattle.std.proofs.Common.{◌≡◌, None, Some, true, arith, ap, subst, sym, ◌∙◌, rules}
 use Rattle.rt_plain.specs.PlainBoard.{PlainBoard}
-use Rattle.rt_plain.specs.Runs.{IsReached, after, is_event_of, room}
+use Rattle.rt_plain.specs.runs.Runs.{IsReached, after, is_event_of, room}
 use Rattle.kernel_step.specs.Built.{IsBuilt}
 use Rattle.kernel_step.specs.Whole.{state_of}
 use Rattle.kernel_step.specs.Seen.{MachineSeen}

@@ -1,6 +1,6 @@
 use Rattle.std.proofs.Common.{◌∙◌}
-use Rattle.rt_plain.proofs.CompleteLemmas.{open-live}
-use Rattle.rt_plain.proofs.ReachedLemmas.{opened-reached}
+use Rattle.rt_plain.proofs.runs.CompleteLemmas.{open-live}
+use Rattle.rt_plain.proofs.runs.ReachedLemmas.{opened-reached}
 use Rattle.kernel_step.proofs.machine.Machine.opened.Goals as goal
 
 pub invariant_of-result : goal.invariant_of-result

@@ -1,7 +1,7 @@
 use Rattle.std.proofs.Common.{arith, ◌≡◌, ◌<◌, ◌∙◌, ap, length, true}
 use Rattle.std.specs.Prelude.{min, slice_index}
 use Rattle.std.proofs.lemmas.Grind.{get_or_default_zero}
-use Rattle.rt_plain.specs.Ownership.{cur_in}
+use Rattle.rt_plain.specs.kernel.Ownership.{cur_in}
 use Rattle.mutex_chain.specs.Owners.{has_thread}
 use Rattle.mutex_chain.proofs.CurLemmas.{cur_at}
 use Rattle.mutex_chain.proofs.ChangeLemmas.{thread_within, cur_small}

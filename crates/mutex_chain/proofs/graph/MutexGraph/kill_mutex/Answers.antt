@@ -1,5 +1,5 @@
 use Rattle.std.proofs.Common.{◌≡◌, ◌∙◌, ap}
-use Rattle.rt_plain.specs.Ownership.{Ownership, waiters_in}
+use Rattle.rt_plain.specs.kernel.Ownership.{Ownership, waiters_in}
 use Rattle.mutex_chain.specs.Graph.{Keeps, WokenList}
 use Rattle.mutex_chain.proofs.KeepLemmas.{keeps_leaves, keeps_same, keeps_trans}
 use Rattle.mutex_chain.proofs.OwnedLemmas.{owned_mutex_end}

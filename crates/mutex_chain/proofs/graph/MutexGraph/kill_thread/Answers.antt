@@ -1,6 +1,6 @@
 use Rattle.std.proofs.Common.{◌≡◌, ap, ◌∙◌, sym, length, None}
 use Rattle.std.proofs.Math.ListN.{length-set}
-use Rattle.rt_plain.specs.Ownership.{Ownership, owned_in, with_member}
+use Rattle.rt_plain.specs.kernel.Ownership.{Ownership, owned_in, with_member}
 use Rattle.mutex_chain.specs.Graph.{Keeps}
 use Rattle.mutex_chain.specs.Walks.{curs_of}
 use Rattle.mutex_chain.proofs.KeepLemmas.{keeps_gone, keeps_passes, keeps_trans}

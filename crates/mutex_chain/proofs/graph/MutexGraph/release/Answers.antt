@@ -1,5 +1,5 @@
 use Rattle.std.proofs.Common.{◌≡◌, ◌∙◌, sym, false}
-use Rattle.rt_plain.specs.Ownership.{taken_of}
+use Rattle.rt_plain.specs.kernel.Ownership.{taken_of}
 use Rattle.mutex_chain.specs.Graph.{Keeps, is_last}
 use Rattle.mutex_chain.proofs.KeepLemmas.{keeps_release}
 use Rattle.mutex_chain.proofs.OwnedLemmas.{owned_release}

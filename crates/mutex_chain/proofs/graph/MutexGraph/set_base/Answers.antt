@@ -1,7 +1,7 @@
 use Rattle.std.proofs.Common.{arith, ◌≡◌, ◌<◌, ◌≤◌, ◌∙◌, ap, length, true, [], ◌∷◌}
 use Rattle.std.specs.Option.{option_map}
 use Rattle.std.proofs.Math.ListN.{length-set}
-use Rattle.rt_plain.specs.Ownership.{Ownership, base_of, member_at, with_base}
+use Rattle.rt_plain.specs.kernel.Ownership.{Ownership, base_of, member_at, with_base}
 use Rattle.mutex_chain.specs.Owners.{has_thread}
 use Rattle.mutex_chain.proofs.ChainLemmas.{leads_here}
 use Rattle.mutex_chain.proofs.ChangeLemmas.{thread_within}

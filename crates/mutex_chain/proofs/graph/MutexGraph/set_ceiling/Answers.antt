@@ -1,7 +1,7 @@
 use Rattle.std.proofs.Common.{arith, ◌≡◌, ◌≤◌, ◌∙◌, sym, ap, Some}
-use Rattle.rt_plain.specs.Weight.{ceiling_touches}
+use Rattle.rt_plain.specs.kernel.Weight.{ceiling_touches}
 use Rattle.std.specs.Option.{option_to_list}
-use Rattle.rt_plain.specs.Ownership.{Ownership, owner_in}
+use Rattle.rt_plain.specs.kernel.Ownership.{Ownership, owner_in}
 use Rattle.mutex_chain.specs.Owners.{ceiling_at}
 use Rattle.mutex_chain.proofs.ChainLemmas.{from_cost}
 use Rattle.mutex_chain.proofs.StrongLemmas.{ceiling_raises}

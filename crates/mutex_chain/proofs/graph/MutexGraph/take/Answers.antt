@@ -1,6 +1,6 @@
 use Rattle.std.proofs.Common.{◌≡◌, ◌∙◌, sym, ap, true, Some, None, cond, not}
 use Rattle.std.specs.Option.{is_some}
-use Rattle.rt_plain.specs.Ownership.{owner_in}
+use Rattle.rt_plain.specs.kernel.Ownership.{owner_in}
 use Rattle.mutex_chain.specs.Owners.{has_thread, ceiling_at}
 use Rattle.mutex_chain.proofs.ChangeLemmas.{thread_within}
 use Rattle.mutex_chain.proofs.OwnedLemmas.{owned_take}

@@ -3,7 +3,7 @@ use Rattle.std.specs.Option.{option_map}
 use Rattle.std.proofs.Math.ListN.{length-set}
 use Rattle.std.specs.Prelude.{slice_index}
 use Rattle.std.proofs.lemmas.Grind.{get_or_default_zero}
-use Rattle.rt_plain.specs.Ownership.{Ownership, awaited_in, member_at, owner_in, with_wait}
+use Rattle.rt_plain.specs.kernel.Ownership.{Ownership, awaited_in, member_at, owner_in, with_wait}
 use Rattle.mutex_chain.specs.Owners.{blocker_in, has_thread}
 use Rattle.mutex_chain.proofs.ChangeLemmas.{thread_within}
 use Rattle.mutex_chain.proofs.ChainLemmas.{leads_above}

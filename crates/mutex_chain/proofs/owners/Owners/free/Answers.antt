@@ -1,7 +1,7 @@
 use Rattle.std.proofs.Common.{rules, arith, ◌≡◌, not, eqb, refl}
 use Rattle.std.specs.Prelude.{filter}
 use Rattle.std.proofs.lemmas.Fn.{filter_same}
-use Rattle.rt_plain.specs.Ownership.{Taken}
+use Rattle.rt_plain.specs.kernel.Ownership.{Taken}
 use Rattle.mutex_chain.proofs.HolderLemmas.{holders_free}
 use Rattle.mutex_chain.proofs.OwnerLemmas.{sound_free}
 use Rattle.mutex_chain.proofs.owners.Owners.free.Goals as goal

@@ -1,7 +1,7 @@
 use Rattle.std.proofs.Common.{rules, arith, ◌≡◌, ◌≢◌, ◌<◌, ◌∷◌, length, ap, ◌∙◌}
 use Rattle.std.specs.Prelude.{All}
 use Rattle.std.proofs.lemmas.Grind.{common_steps}
-use Rattle.rt_plain.specs.Ownership.{Ownership, Taken, with_mutex_free}
+use Rattle.rt_plain.specs.kernel.Ownership.{Ownership, Taken, with_mutex_free}
 use Rattle.mutex_chain.proofs.HolderLemmas.{holders_push}
 use Rattle.mutex_chain.proofs.OwnerLemmas.{others, others_apart, sound_push}
 use Rattle.mutex_chain.proofs.owners.Owners.get.Goals as goal

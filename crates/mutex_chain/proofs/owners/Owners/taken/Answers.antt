@@ -1,6 +1,6 @@
 use Rattle.std.proofs.Common.{◌<◌, length}
 use Rattle.std.specs.Prelude.{◌==◌}
-use Rattle.rt_plain.specs.Ownership.{Taken}
+use Rattle.rt_plain.specs.kernel.Ownership.{Taken}
 use Rattle.mutex_chain.proofs.CurLemmas.{found_has}
 use Rattle.mutex_chain.proofs.owners.Owners.taken.Goals as goal
 

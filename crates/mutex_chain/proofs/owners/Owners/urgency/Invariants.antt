@@ -1,5 +1,5 @@
 use Rattle.std.proofs.Common.{◌≡◌, drop}
-use Rattle.rt_plain.specs.Ownership.{member_urgency}
+use Rattle.rt_plain.specs.kernel.Ownership.{member_urgency}
 use Rattle.mutex_chain.proofs.UrgencyLemmas.{urgency_with}
 use Rattle.mutex_chain.proofs.owners.Owners.urgency.Given as goal
 

@@ -1,6 +1,6 @@
 use Rattle.std.proofs.Common.{◌≡◌, ◌+◌, ◌-◌, ◌/◌, ◌%◌, min, ap, ◌∙◌, arith}
 use Rattle.pm_core.specs.Clock.{Clock, moment_of}
-use Rattle.rt_plain.specs.LpClock.{counts_ahead, ticks_ahead}
+use Rattle.rt_plain.specs.kernel.LpClock.{counts_ahead, ticks_ahead}
 use Rattle.pm_core.proofs.Clocks.{parts-now, count-is, count-ahead, back-ahead}
 use Rattle.pm_core.proofs.clock.LpClock.set.Goals as goal
 

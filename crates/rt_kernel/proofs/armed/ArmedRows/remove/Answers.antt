@@ -1,7 +1,7 @@
 use Rattle.std.proofs.Common.{rules, not, ap, ◌∙◌, map, filter}
 use Rattle.std.proofs.lemmas.Fn.{filter_same}
-use Rattle.rt_plain.specs.State.{OfThread, ArmedRow, Alarm}
-use Rattle.rt_plain.specs.Effects.{is_alarm}
+use Rattle.rt_plain.specs.kernel.State.{OfThread, ArmedRow, Alarm}
+use Rattle.rt_plain.specs.kernel.Effects.{is_alarm}
 use Rattle.rt_kernel.specs.declared.armed.Armed.{Armed}
 use Rattle.rt_kernel.specs.Threads.{plain_armed}
 use Rattle.rt_kernel.proofs.ListLemmas.{map-filter}

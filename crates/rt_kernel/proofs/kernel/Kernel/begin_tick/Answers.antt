@@ -1,10 +1,10 @@
 use Rattle.std.proofs.Common.{◌<◌, sym, ap, ◌∙◌, subst}
-use Rattle.rt_plain.specs.State.{State}
-use Rattle.rt_plain.specs.Kept.{Kept}
+use Rattle.rt_plain.specs.kernel.State.{State}
+use Rattle.rt_plain.specs.kernel.Kept.{Kept}
 use Rattle.rt_kernel.specs.Inside.{frame_of}
 use Rattle.rt_kernel.specs.Seen.{KernelSeen}
 use Rattle.rt_kernel.specs.View.{state_of}
-use Rattle.rt_plain.specs.Due.{due}
+use Rattle.rt_plain.specs.kernel.Due.{due}
 use Rattle.rt_kernel.proofs.KeptLemmas.{begun-kept}
 use Rattle.rt_kernel.proofs.kernel.Kernel.begin_tick.Goals as goal
 

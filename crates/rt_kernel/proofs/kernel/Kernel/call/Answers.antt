@@ -1,12 +1,12 @@
 use Rattle.std.proofs.Common.{◌≡◌, true, sym, ap, ◌∙◌, subst}
 use Rattle.rt_plain.specs.declared.stmt.Stmt.{Stmt}
-use Rattle.rt_plain.specs.State.{State, thread_at}
-use Rattle.rt_plain.specs.Effects.{Effect}
-use Rattle.rt_plain.specs.Kept.{Kept}
+use Rattle.rt_plain.specs.kernel.State.{State, thread_at}
+use Rattle.rt_plain.specs.kernel.Effects.{Effect}
+use Rattle.rt_plain.specs.kernel.Kept.{Kept}
 use Rattle.rt_kernel.specs.Inside.{frame_of}
 use Rattle.rt_kernel.specs.Seen.{KernelSeen, DoesNext, MayCall}
 use Rattle.rt_kernel.specs.View.{state_of}
-use Rattle.rt_plain.specs.Statements.{statement_effect}
+use Rattle.rt_plain.specs.kernel.Statements.{statement_effect}
 use Rattle.rt_kernel.specs.declared.answer.By.{By}
 use Rattle.rt_kernel.specs.Built.{is_built_statement}
 use Rattle.rt_kernel.proofs.BuiltLemmas.{all-built}

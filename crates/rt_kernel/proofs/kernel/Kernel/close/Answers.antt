@@ -1,12 +1,12 @@
 use Rattle.std.proofs.Common.{◌++◌, refl, sym, ap, ◌∙◌, subst}
-use Rattle.rt_plain.specs.State.{State}
-use Rattle.rt_plain.specs.Effects.{Effect}
-use Rattle.rt_plain.specs.Kept.{Kept}
+use Rattle.rt_plain.specs.kernel.State.{State}
+use Rattle.rt_plain.specs.kernel.Effects.{Effect}
+use Rattle.rt_plain.specs.kernel.Kept.{Kept}
 use Rattle.rt_kernel.specs.Inside.{frame_of}
 use Rattle.rt_kernel.specs.Seen.{KernelSeen}
 use Rattle.rt_kernel.specs.View.{state_of}
-use Rattle.rt_plain.specs.Owners.{close_effect}
-use Rattle.rt_plain.specs.Calls.{settled_effect}
+use Rattle.rt_plain.specs.kernel.Owners.{close_effect}
+use Rattle.rt_plain.specs.kernel.Calls.{settled_effect}
 use Rattle.rt_kernel.proofs.KeptLemmas.{closed-kept}
 use Rattle.rt_kernel.proofs.Quiet.{close_settles}
 use Rattle.rt_kernel.proofs.kernel.Kernel.close.Goals as goal

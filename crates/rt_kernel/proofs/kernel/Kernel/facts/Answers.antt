@@ -1,7 +1,7 @@
 use Rattle.std.proofs.Common.{◌≡◌, ◌≤◌, ◌<◌, length, ℕ, Some, false, subst, refl}
-use Rattle.rt_plain.specs.State.{State, running_on, thread_at, is_closed}
-use Rattle.rt_plain.specs.Due.{due}
-use Rattle.rt_plain.specs.Sound.{IsProper}
+use Rattle.rt_plain.specs.kernel.State.{State, running_on, thread_at, is_closed}
+use Rattle.rt_plain.specs.kernel.Due.{due}
+use Rattle.rt_plain.specs.kernel.Sound.{IsProper}
 use Rattle.rt_kernel.specs.Inside.{frame_of}
 use Rattle.rt_kernel.specs.Seen.{KernelSeen}
 use Rattle.rt_kernel.specs.View.{state_of}

@@ -1,14 +1,14 @@
 use Rattle.std.proofs.Common.{◌≡◌, ◌≤◌, ◌++◌, refl, sym, ap, ◌∙◌, subst, length}
-use Rattle.rt_plain.specs.State.{State, thread_at}
-use Rattle.rt_plain.specs.Effects.{Effect}
-use Rattle.rt_plain.specs.Kept.{Kept}
+use Rattle.rt_plain.specs.kernel.State.{State, thread_at}
+use Rattle.rt_plain.specs.kernel.Effects.{Effect}
+use Rattle.rt_plain.specs.kernel.Kept.{Kept}
 use Rattle.rt_kernel.specs.Inside.{frame_of}
 use Rattle.rt_kernel.specs.Seen.{KernelSeen}
 use Rattle.rt_kernel.specs.View.{state_of}
-use Rattle.rt_plain.specs.Due.{due, timeout_effect}
-use Rattle.rt_plain.specs.State.{OfThread}
-use Rattle.rt_plain.specs.Calls.{settled_effect}
-use Rattle.rt_plain.specs.Sound.{is_waiting}
+use Rattle.rt_plain.specs.kernel.Due.{due, timeout_effect}
+use Rattle.rt_plain.specs.kernel.State.{OfThread}
+use Rattle.rt_plain.specs.kernel.Calls.{settled_effect}
+use Rattle.rt_plain.specs.kernel.Sound.{is_waiting}
 use Rattle.rt_kernel.proofs.KeptLemmas.{fired-kept, due-dropped}
 use Rattle.rt_kernel.proofs.Quiet.{fire_settles}
 use Rattle.rt_kernel.proofs.kernel.Kernel.fire.Given.{Over}

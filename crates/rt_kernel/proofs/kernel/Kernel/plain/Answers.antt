@@ -1,12 +1,12 @@
 use Rattle.std.proofs.Common.{◌≡◌, ◌≤◌, ◌++◌, List, ℕ, Option, Some, refl, sym, ap, ◌∙◌, subst, length}
 use Rattle.rt_plain.specs.declared.stmt.Stmt.{Stmt}
-use Rattle.rt_plain.specs.State.{State, Thread, thread_at, running_on}
-use Rattle.rt_plain.specs.Effects.{Effect}
-use Rattle.rt_plain.specs.Kept.{Kept}
+use Rattle.rt_plain.specs.kernel.State.{State, Thread, thread_at, running_on}
+use Rattle.rt_plain.specs.kernel.Effects.{Effect}
+use Rattle.rt_plain.specs.kernel.Kept.{Kept}
 use Rattle.rt_kernel.specs.Inside.{frame_of}
 use Rattle.rt_kernel.specs.Seen.{KernelSeen, DoesNext}
 use Rattle.rt_kernel.specs.View.{state_of}
-use Rattle.rt_plain.specs.Statements.{script_of, statement_effect}
+use Rattle.rt_plain.specs.kernel.Statements.{script_of, statement_effect}
 use Rattle.rt_kernel.specs.Plain.{plain_did}
 use Rattle.rt_kernel.specs.Threads.{row_at}
 use Rattle.rt_kernel.proofs.BuiltLemmas.{script-short}

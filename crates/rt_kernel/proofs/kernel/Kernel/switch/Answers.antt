@@ -1,6 +1,6 @@
 use Rattle.std.proofs.Common.{◌∙◌, arith, sym, subst}
-use Rattle.rt_plain.specs.State.{State}
-use Rattle.rt_plain.specs.Kept.{Kept}
+use Rattle.rt_plain.specs.kernel.State.{State}
+use Rattle.rt_plain.specs.kernel.Kept.{Kept}
 use Rattle.rt_kernel.specs.Inside.{frame_of}
 use Rattle.rt_kernel.specs.View.{state_of}
 use Rattle.rt_kernel.proofs.KeptLemmas.{switched-kept}

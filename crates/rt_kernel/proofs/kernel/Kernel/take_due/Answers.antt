@@ -1,13 +1,13 @@
 use Rattle.std.proofs.Common.{◌≡◌, ◌<◌, ℕ, Option, Some, true, sym, ap, ◌∙◌, subst, length}
-use Rattle.rt_plain.specs.State.{State, thread_at}
-use Rattle.rt_plain.specs.Kept.{Kept}
+use Rattle.rt_plain.specs.kernel.State.{State, thread_at}
+use Rattle.rt_plain.specs.kernel.Kept.{Kept}
 use Rattle.rt_kernel.specs.Inside.{frame_of}
 use Rattle.rt_kernel.specs.Seen.{KernelSeen}
 use Rattle.rt_kernel.specs.View.{state_of}
-use Rattle.rt_plain.specs.State.{OfThread}
+use Rattle.rt_plain.specs.kernel.State.{OfThread}
 use Rattle.std.specs.Option.{option_map}
-use Rattle.rt_plain.specs.Due.{due}
-use Rattle.rt_plain.specs.Sound.{is_waiting}
+use Rattle.rt_plain.specs.kernel.Due.{due}
+use Rattle.rt_plain.specs.kernel.Sound.{is_waiting}
 use Rattle.rt_kernel.specs.Due.{taken}
 use Rattle.rt_kernel.proofs.KeptLemmas.{taken-kept, first-due}
 use Rattle.rt_kernel.proofs.kernel.Kernel.take_due.Given.{Over}

@@ -1,5 +1,5 @@
 use Rattle.std.proofs.Common.{sym, ap, refl, ◌++◌}
-use Rattle.rt_plain.specs.Effects.{Effect}
+use Rattle.rt_plain.specs.kernel.Effects.{Effect}
 use Rattle.rt_kernel.specs.View.{state_of}
 use Rattle.rt_kernel.proofs.OwnLemmas.{own_settles}
 use Rattle.rt_kernel.proofs.records.Records.call.Goals as goal

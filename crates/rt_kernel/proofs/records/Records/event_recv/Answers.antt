@@ -1,9 +1,9 @@
 use Rattle.std.proofs.Common.{List, Some, sym, ap, ◌∙◌}
 use Rattle.rt_base.specs.declared.codes.Code.{Code}
 use Rattle.rt_plain.specs.declared.stmt.Call.{Call}
-use Rattle.rt_plain.specs.State.{EventObj}
-use Rattle.rt_plain.specs.EventCalls.{Want}
-use Rattle.rt_plain.specs.Outcome.{Outcome, first_wait_outcome}
+use Rattle.rt_plain.specs.kernel.State.{EventObj}
+use Rattle.rt_plain.specs.kernel.EventCalls.{Want}
+use Rattle.rt_plain.specs.kernel.Outcome.{Outcome, first_wait_outcome}
 use Rattle.ipc_counts.specs.Flags.{plain_want}
 use Rattle.rt_kernel.specs.Called.{called}
 use Rattle.rt_kernel.specs.Tabled.{Tabled, found_event}

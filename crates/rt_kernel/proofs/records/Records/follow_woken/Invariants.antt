@@ -1,6 +1,6 @@
 use Rattle.std.proofs.Common.{◌≡◌, ◌+◌, ◌++◌, length, drop}
 use Rattle.rt_base.specs.declared.codes.Code.{Code}
-use Rattle.rt_plain.specs.Effects.{each_effect}
+use Rattle.rt_plain.specs.kernel.Effects.{each_effect}
 use Rattle.rt_kernel.specs.View.{state_of}
 use Rattle.rt_kernel.specs.Wake.{follow_effect}
 use Rattle.rt_kernel.proofs.records.Records.follow_woken.Given as goal

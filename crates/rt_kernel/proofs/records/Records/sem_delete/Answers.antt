@@ -2,10 +2,10 @@ use Rattle.std.proofs.Common.{◌≡◌, ◌<◌, ℕ, List, ◌∷◌, ◌++◌
 use Rattle.std.proofs.lemmas.List.{append_assoc}
 use Rattle.rt_base.specs.declared.codes.Code.{Code}
 use Rattle.rt_plain.specs.declared.line.Line.{Line}
-use Rattle.rt_plain.specs.Effects.{each_effect}
-use Rattle.rt_plain.specs.Outcome.{Outcome, Answers}
-use Rattle.rt_plain.specs.Statements.{with_answer}
-use Rattle.rt_plain.proofs.TallyLemmas.{all-weaker}
+use Rattle.rt_plain.specs.kernel.Effects.{each_effect}
+use Rattle.rt_plain.specs.kernel.Outcome.{Outcome, Answers}
+use Rattle.rt_plain.specs.kernel.Statements.{with_answer}
+use Rattle.rt_plain.proofs.kernel.TallyLemmas.{all-weaker}
 use Rattle.rt_kernel.specs.Called.{called}
 use Rattle.rt_kernel.specs.Tabled.{Tabled, without_sem}
 use Rattle.rt_kernel.specs.Threads.{row_at}

@@ -2,9 +2,9 @@ use Rattle.std.proofs.Common.{ℕ, List, [], ◌∷◌, ◌++◌, Some, sym, ap,
 use Rattle.std.proofs.lemmas.List.{append_assoc}
 use Rattle.rt_base.specs.declared.codes.Code.{Code}
 use Rattle.rt_plain.specs.declared.line.Line.{Line}
-use Rattle.rt_plain.specs.State.{Thread}
-use Rattle.rt_plain.specs.Outcome.{Outcome, Answers, refusal}
-use Rattle.rt_plain.specs.Statements.{with_answer}
+use Rattle.rt_plain.specs.kernel.State.{Thread}
+use Rattle.rt_plain.specs.kernel.Outcome.{Outcome, Answers, refusal}
+use Rattle.rt_plain.specs.kernel.Statements.{with_answer}
 use Rattle.rt_kernel.specs.Called.{called}
 use Rattle.rt_kernel.specs.Tabled.{Tabled, Releases}
 use Rattle.rt_kernel.specs.Threads.{row_at}

@@ -1,8 +1,8 @@
 use Rattle.std.proofs.Common.{List, Some, sym, ap, ◌∙◌}
 use Rattle.rt_base.specs.declared.codes.Code.{Code}
 use Rattle.rt_plain.specs.declared.stmt.Call.{Call}
-use Rattle.rt_plain.specs.State.{Sem}
-use Rattle.rt_plain.specs.Outcome.{Outcome, first_wait_outcome}
+use Rattle.rt_plain.specs.kernel.State.{Sem}
+use Rattle.rt_plain.specs.kernel.Outcome.{Outcome, first_wait_outcome}
 use Rattle.rt_kernel.specs.Called.{called}
 use Rattle.rt_kernel.specs.Tabled.{Tabled, found_sem}
 use Rattle.rt_kernel.specs.View.{state_of}

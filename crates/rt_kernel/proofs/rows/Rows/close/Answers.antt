@@ -1,5 +1,5 @@
 use Rattle.std.proofs.Common.{refl, None}
-use Rattle.rt_plain.specs.State.{Thread, Closed}
+use Rattle.rt_plain.specs.kernel.State.{Thread, Closed}
 use Rattle.rt_kernel.proofs.RowLemmas.{written}
 use Rattle.rt_kernel.proofs.rows.Rows.close.Goals as goal
 

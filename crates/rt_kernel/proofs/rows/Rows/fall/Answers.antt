@@ -1,4 +1,4 @@
-use Rattle.rt_plain.specs.Ticks.{thread_after_slice}
+use Rattle.rt_plain.specs.kernel.Ticks.{thread_after_slice}
 use Rattle.rt_kernel.proofs.RowLemmas.{written}
 use Rattle.rt_kernel.proofs.rows.Rows.fall.Goals as goal
 

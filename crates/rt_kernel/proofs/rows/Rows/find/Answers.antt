@@ -1,6 +1,6 @@
 use Rattle.std.proofs.Common.{◌≡◌, sym, ap, ◌∙◌, None, Some, List, Option, ℕ, map}
 use Rattle.std.specs.List.{position_from}
-use Rattle.rt_plain.specs.State.{Thread}
+use Rattle.rt_plain.specs.kernel.State.{Thread}
 use Rattle.rt_kernel.specs.declared.rows.Row.{Row}
 use Rattle.rt_kernel.specs.Threads.{plain_thread, is_found}
 use Rattle.rt_kernel.proofs.ListLemmas.{position-map}

@@ -1,5 +1,5 @@
 use Rattle.std.proofs.Common.{refl}
-use Rattle.rt_plain.specs.State.{Thread}
+use Rattle.rt_plain.specs.kernel.State.{Thread}
 use Rattle.rt_kernel.proofs.RowLemmas.{written}
 use Rattle.rt_kernel.proofs.rows.Rows.set_base.Goals as goal
 

@@ -1,5 +1,5 @@
 use Rattle.std.proofs.Common.{ℕ, List, ap, ◌∙◌}
-use Rattle.rt_plain.specs.State.{EventObj}
+use Rattle.rt_plain.specs.kernel.State.{EventObj}
 use Rattle.rt_kernel.proofs.CreateLemmas.{events_more, events_all}
 use Rattle.rt_kernel.proofs.tables.Tables.create_events.Goals as goal
 

@@ -1,5 +1,5 @@
 use Rattle.std.proofs.Common.{◌≡◌, map, reverse, take}
-use Rattle.rt_plain.specs.Opening.{new_event}
+use Rattle.rt_plain.specs.kernel.Opening.{new_event}
 use Rattle.rt_kernel.proofs.tables.Tables.create_events.Given as goal
 
 -- those of the definitions so far

@@ -1,5 +1,5 @@
 use Rattle.std.proofs.Common.{ℕ, List, ap, ◌∙◌}
-use Rattle.rt_plain.specs.State.{Sem}
+use Rattle.rt_plain.specs.kernel.State.{Sem}
 use Rattle.rt_kernel.proofs.CreateLemmas.{sems_more, sems_all}
 use Rattle.rt_kernel.proofs.tables.Tables.create_sems.Goals as goal
 

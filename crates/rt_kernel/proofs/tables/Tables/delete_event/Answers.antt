@@ -1,7 +1,7 @@
 use Rattle.std.proofs.Common.{arith, ◌≡◌, ◌+◌, ◌<◌, ◌≤◌, ◌∙◌, List, Some, sym, ap, length, slice_set, subst, is_some, refl}
 use Rattle.std.proofs.lemmas.List.{get_or_read, set-get_or, length_push}
 use Rattle.std.proofs.lemmas.Option.{none-some}
-use Rattle.rt_plain.specs.Waiting.{head_of}
+use Rattle.rt_plain.specs.kernel.Waiting.{head_of}
 use Rattle.susp_list.specs.Rows.{line}
 use Rattle.object_box.specs.Classes.{AllObjects}
 use Rattle.object_box.specs.Objects.{number_of, has_number}

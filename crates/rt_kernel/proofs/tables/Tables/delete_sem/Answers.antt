@@ -1,6 +1,6 @@
 use Rattle.std.proofs.Common.{arith, ◌≡◌, ◌≤◌, ◌<◌, length, is_some, Some, None, true, sym, ap, ◌∙◌}
 use Rattle.std.proofs.lemmas.Option.{none-some}
-use Rattle.rt_plain.specs.Waiting.{first_of}
+use Rattle.rt_plain.specs.kernel.Waiting.{first_of}
 use Rattle.ipc_counts.specs.Released.{without}
 use Rattle.susp_list.specs.Rows.{Waits, line, waiters, holds}
 use Rattle.object_box.specs.Objects.{number_of}

@@ -1,6 +1,6 @@
 use Rattle.std.proofs.Common.{sym, subst, ◌<◌, length}
-use Rattle.rt_plain.specs.State.{Thread}
-use Rattle.rt_plain.specs.Ticks.{thread_after_slice}
+use Rattle.rt_plain.specs.kernel.State.{Thread}
+use Rattle.rt_plain.specs.kernel.Ticks.{thread_after_slice}
 use Rattle.rt_kernel.specs.Tabled.{Tabled}
 use Rattle.rt_kernel.specs.Threads.{row_at}
 use Rattle.rt_kernel.proofs.TableLemmas.{tied-kept, fallen}

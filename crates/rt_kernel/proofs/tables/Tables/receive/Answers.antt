@@ -1,7 +1,7 @@
 use Rattle.std.proofs.Common.{arith, ◌≡◌, ◌<◌, List, Option, Some, None, length, sym, ap, ◌∙◌}
 use Rattle.std.specs.Option.{option_map}
 use Rattle.std.proofs.lemmas.List.{get_or_read}
-use Rattle.rt_plain.specs.State.{EventObj as PlainEvent}
+use Rattle.rt_plain.specs.kernel.State.{EventObj as PlainEvent}
 use Rattle.object_box.specs.Objects.{number_of}
 use Rattle.ipc_counts.specs.Flags.{plain_want}
 use Rattle.rt_kernel.specs.Listed.{event_at, plain_event, plain_events}

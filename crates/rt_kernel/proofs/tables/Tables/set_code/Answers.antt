@@ -1,5 +1,5 @@
 use Rattle.std.proofs.Common.{refl, sym, subst, ◌<◌, length}
-use Rattle.rt_plain.specs.State.{Thread}
+use Rattle.rt_plain.specs.kernel.State.{Thread}
 use Rattle.rt_kernel.specs.Tabled.{Tabled}
 use Rattle.rt_kernel.specs.Threads.{row_at}
 use Rattle.rt_kernel.proofs.TableLemmas.{tied-kept}

@@ -1,5 +1,5 @@
 use Rattle.std.proofs.Common.{refl, sym, ap, ◌∙◌, subst, ◌≡◌, ◌<◌, length, List, map}
-use Rattle.rt_plain.specs.State.{Thread, Stage}
+use Rattle.rt_plain.specs.kernel.State.{Thread, Stage}
 use Rattle.ipc_counts.specs.Counted.{Counted}
 use Rattle.ipc_counts.specs.Flags.{Flagged}
 use Rattle.rt_kernel.specs.Listed.{Holds, sem_left, event_left, sem_no_at, event_no_at, sems_with, events_with, plain_sem, plain_event}

@@ -1,6 +1,6 @@
 use Rattle.std.proofs.Common.{arith, ◌≡◌, ◌∙◌, Bool, Some, None, sym, ap, nat_lt, map, refl}
 use Rattle.std.specs.Option.{option_map}
-use Rattle.rt_plain.specs.State.{Sem as PlainSem}
+use Rattle.rt_plain.specs.kernel.State.{Sem as PlainSem}
 use Rattle.ipc_counts.specs.Counted.{Counted}
 use Rattle.object_box.specs.Objects.{number_of}
 use Rattle.rt_kernel.specs.Listed.{plain_event}

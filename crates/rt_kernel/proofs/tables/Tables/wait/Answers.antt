@@ -1,5 +1,5 @@
 use Rattle.std.proofs.Common.{refl, sym, ap, ◌∙◌, subst, ◌≡◌, ◌<◌, length, List, map, true, slice_set}
-use Rattle.rt_plain.specs.State.{Thread, Stage, Waiting, InCall}
+use Rattle.rt_plain.specs.kernel.State.{Thread, Stage, Waiting, InCall}
 use Rattle.object_box.specs.Classes.{AllObjects}
 use Rattle.ipc_counts.specs.Counted.{Counted}
 use Rattle.ipc_counts.specs.Flags.{Flagged}

@@ -1,7 +1,7 @@
 use Rattle.std.proofs.Common.{List, Some, slice_get, option_map, refl, sym, ap, ◌∙◌}
 use Rattle.std.proofs.lemmas.Option.{slice_get-map}
-use Rattle.rt_plain.specs.State.{State, Thread}
-use Rattle.rt_plain.specs.Rows.{rows, thread_row}
+use Rattle.rt_plain.specs.kernel.State.{State, Thread}
+use Rattle.rt_plain.specs.kernel.Rows.{rows, thread_row}
 use Rattle.rt_kernel.specs.Seen.{KernelSeen}
 use Rattle.rt_kernel.specs.Shown.{shown}
 use Rattle.rt_kernel.specs.View.{state_of}

@@ -1,0 +1,23 @@
+-- What the kernel keeps, and what it costs.
+pub mod TallyLemmas
+pub mod Invariant
+pub mod WakeLemmas
+pub mod CallLemmas
+pub mod ObjectLemmas
+pub mod StatementLemmas
+pub mod TickLemmas
+pub mod StepLemmas
+pub mod OpenLemmas
+pub mod ActionLemmas
+pub mod EventLemmas
+pub mod SoundLemmas
+pub mod ClockLemmas
+pub mod SkipLemmas
+pub mod CostLemmas
+pub mod CallCosts
+pub mod WorkCosts
+pub mod StatementCosts
+pub mod TickCosts
+pub mod LevelLemmas
+pub mod FireLemmas
+pub mod AwakeLemmas
