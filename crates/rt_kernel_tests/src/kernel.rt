@@ -10,9 +10,10 @@ use std::process::Abort;
 use std::sync::ledger::{Blank, Ledger};
 use std::test::Fail;
 
-// The most urgent thread waits, another one isn't started, and a third one starts it.
+// The first tick that is shown is the last one. The most urgent thread waits, another one isn't started, and a third one
+// starts it.
 const BOARD: &[u8] =
-    b"board 1\ndefault light\nthread a 5 3 any start\n  print \"x\"\n  delay 1\nthread b 9 1 any init\nthread c 7 2 any start\n  startup b\n";
+    b"board 1\ntick0 4294967295\ndefault light\nthread a 5 3 any start\n  print \"x\"\n  delay 1\nthread b 9 1 any init\nthread c 7 2 any start\n  startup b\n";
 
 // Two semaphores and an event object, and a thread that sends flags and then waits.
 const OBJECTS: &[u8] =
@@ -27,17 +28,17 @@ enum Act {
     Tick,
 }
 
-// What is done, and then who runs, the tick, the next number, and how many lines were shown.
+// What is done, and then who runs, the moment, the next number, and how many lines were shown.
 #[derive(Clone, Copy)]
 struct Stage {
     act: Act,
     running: Option<ThreadNo>,
-    tick: u32,
+    moment: u64,
     numbers: u64,
     lines: usize,
 }
 
-fn after(act: Act, running: Option<u16>, tick: u32, numbers: u64, lines: usize) -> Stage {
+fn after(act: Act, running: Option<u16>, moment: u64, numbers: u64, lines: usize) -> Stage {
     let running = match running {
         Some(t) => Some(ThreadNo(t)),
         None => None,
@@ -45,7 +46,7 @@ fn after(act: Act, running: Option<u16>, tick: u32, numbers: u64, lines: usize) 
     Stage {
         act,
         running,
-        tick,
+        moment,
         numbers,
         lines,
     }
@@ -126,7 +127,7 @@ fn perform<L: Ledger>(
     }
     kernel.facts();
     assert!(rt; kernel.running(CORE) == stage.running);
-    assert_eq!(rt; kernel.tick(), stage.tick);
+    assert_eq!(rt; kernel.moment(), stage.moment);
     assert_eq!(rt; kernel.numbers(), stage.numbers);
     assert_eq!(rt; out.len(), stage.lines);
 }
@@ -214,6 +215,7 @@ fn opened(rt: &impl Abort, alloc: Global, text: &[u8]) -> Result<Kernel, Fail> {
 
 fn look_at_opening(rt: &impl Abort, kernel: &Kernel) {
     assert!(rt; kernel.is_quiet() && !kernel.all_idle());
+    assert_eq!(rt; kernel.tick(), 4_294_967_295);
     assert!(rt; kernel.run_mode() == RunMode::Normal && kernel.mode() == Sleep::Light);
     assert_eq!(rt; kernel.votes(Sleep::Deep), 0);
     assert_eq!(rt; kernel.board().threads.len(), 3);
@@ -239,6 +241,7 @@ fn run_threads<L: Ledger>(
 ) {
     look_at_opening(rt, kernel);
     perform_all(rt, kernel, &begin_stages(), out, steps);
+    assert_eq!(rt; kernel.tick(), 0);
     assert!(rt; shows(kernel, 0, b"c", ThreadState::Running, 1));
     assert!(rt; shows(kernel, 1, b"b", ThreadState::Initial, 1));
     assert!(rt; shows(kernel, 2, b"a", ThreadState::Ready, 3));

@@ -8,7 +8,7 @@ const PRINT: &[u8] = b"  print \"01234567890123456789012345678901234567890123456
 
 // The settings of a board that states none.
 const SETTINGS: &[u8] =
-    b"board 1\ncores 1\nlevels 32\ntickless on\nuntil 4294967295\nentries 1000000\nlpmax 2147483647\nthresh 2\ndefault none\nschedule round\nlimit sem 64\nlimit event 64\nlimit mutex 256\n";
+    b"board 1\ncores 1\nlevels 32\ntickless on\ntick0 0\nuntil 4294967295\nentries 1000000\nlpmax 2147483647\nthresh 2\nlpclock 1 1\ndefault none\nschedule round\nlimit sem 64\nlimit event 64\nlimit mutex 256\n";
 
 const WIDE: Outside = Outside { most: 4096, ..GOOD };
 
@@ -39,13 +39,13 @@ fn a_board_has_at_most_1048576_bytes(rt: HostRuntime) -> Result<(), Fail> {
     Ok(())
 }
 
-// The settings, 33 threads that print 512 times each, 1,048,377 bytes, and the last line.
+// The settings, 33 threads that print 512 times each, 1,048,344 bytes, and the last line.
 fn talkative(alloc: Global, settings: &[u8], last: &[u8]) -> Result<Vec<u8>, AllocError> {
     let mut board = Vec::from_slice(alloc, settings)?;
     for name in b"ABCDEFGHIJKLMNOPQRSTUVWXYZabcdefg" {
         board.extend_from_slice(b"thread ")?;
         board.push(*name)?;
-        board.extend_from_slice(b" 10 10 any start\n")?;
+        board.extend_from_slice(b" 9 10 any start\n")?;
         for _ in 0..512 {
             board.extend_from_slice(PRINT)?;
         }
@@ -69,9 +69,9 @@ fn status_of_shown(rt: &impl Abort, alloc: Global, last: &[u8], bytes: usize) ->
 // What is shown is longer by the settings. It is read again up to the size of a board.
 #[test]
 fn the_longest_shown_board_is_read_again(rt: HostRuntime) -> Result<(), Fail> {
-    let last = b"arrive 1 console \"0123456789\"\n";
+    let last = b"arrive 1 console \"0123456789abcdefghijklm\"\n";
     assert_eq!(rt; status_of_shown(&rt, rt.alloc(), last, 1_048_576)?, 0);
-    let longer = b"arrive 1 console \"0123456789a\"\n";
+    let longer = b"arrive 1 console \"0123456789abcdefghijklmn\"\n";
     assert_eq!(rt; status_of_shown(&rt, rt.alloc(), longer, 1_048_577)?, 6);
     Ok(())
 }
