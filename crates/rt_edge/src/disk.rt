@@ -1,4 +1,4 @@
-ghost use Rattle.std.specs.Prelude.{◌≡◌, ◌↔◌, [], Some, None, IfOk, IsErrOf, OnOk, MatchResult};
+ghost use Rattle.std.specs.Prelude.{◌≡◌, ◌↔◌, [], Some, None};
 ghost use Rattle.std.specs.IoError.{error_kind};
 
 use crate::{Failed, Files, OpenFault};
