@@ -40,6 +40,8 @@ fn take_some<F: Files>(files: &mut F, text: &mut Vec<u8>, room: usize) -> Result
     ensures failed { IsErrOf result ReadFault.Failed → Rose (F.faults files.old) (F.faults files.new) }
     ensures faults { F.faults files.old ≤ F.faults files.new }
     ensures missing_count { F.missing files.old ≤ F.missing files.new }
+    ensures taken { F.taken files.new ≤ F.taken files.old + room }
+    ensures counted { IfOk result (λ n. F.taken files.new ≤ F.taken files.old + n) }
 {
     let mut buf = [0u8; 4096];
     let most = room.min(buf.len());
@@ -61,6 +63,7 @@ fn read_open<F: Files>(alloc: Global, files: &mut F, most: u32) -> Result<Vec<u8
     ensures failed { IsErrOf result ReadFault.Failed → Rose (F.faults files.old) (F.faults files.new) }
     ensures faults { F.faults files.old ≤ F.faults files.new }
     ensures missing_count { F.missing files.old ≤ F.missing files.new }
+    ensures taken { F.taken files.new ≤ F.taken files.old + (most + 1) }
 {
     let most = most as usize;
     let mut text = Vec::new(alloc);
@@ -74,7 +77,7 @@ fn read_open<F: Files>(alloc: Global, files: &mut F, most: u32) -> Result<Vec<u8
 }
 
 /// All that a file holds, which is read until a call gives no more. `Missing` and `Failed` come only where their count
-/// rose, and `TooLong` exactly for a file of more than `most` bytes, of which `most + 1` are read.
+/// rose, and `TooLong` exactly for a file of more than `most` bytes. No more than `most + 1` bytes are taken.
 pub(crate) fn read_file<F: Files>(
     alloc: Global,
     files: &mut F,
@@ -88,6 +91,7 @@ pub(crate) fn read_file<F: Files>(
     ensures absent { IsErrOf result ReadFault.Missing → IsAbsent (F.held files.old) name.now }
     ensures failed { IsErrOf result ReadFault.Failed → Rose (F.faults files.old) (F.faults files.new) }
     ensures found { IsErrOf result ReadFault.Memory → IfHeld (F.held files.old) name.now (λ bytes. Unit {0}) }
+    ensures taken { F.taken files.new ≤ F.taken files.old + (most + 1) }
 {
     match files.open(name) {
         Ok(()) => read_open(alloc, files, most),

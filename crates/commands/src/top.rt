@@ -1,4 +1,4 @@
-ghost use Rattle.std.specs.Prelude.{◌≡◌, ◌↔◌, ◌⊎◌, None};
+ghost use Rattle.std.specs.Prelude.{◌≡◌, ◌↔◌, ◌⊎◌, ◌+◌, ◌≤◌, None};
 ghost use Rattle.rt_edge.specs.Counts.{Rose};
 ghost use Rattle.commands.specs.Held.{Steady};
 ghost use Rattle.commands.specs.Words.{command_of, named_file};
@@ -29,6 +29,7 @@ fn perform<F: Files, O: Sink>(alloc: Global, words: &[String], files: &mut F, ou
     ensures cause { HasCause (command_of words.now) (F.held files.old) result }
     ensures found { result ≡ Ending.Memory → IfAsked (command_of words.now) (F.held files.old) (λ command bytes. Unit {0}) }
     ensures kept { (result ≡ Ending.Done → ⊥) → (result ≡ Ending.Unwritable → ⊥) → out.new ≡ out.old }
+    ensures taken { F.taken files.new ≤ F.taken files.old + 1048577 }
 {
     let Some(command) = command_of(words) else {
         return Ending::Usage;
@@ -86,6 +87,9 @@ pub fn rtsim<F: Files, O: Sink, E: Sink>(
     ensures unbuilt { result ≡ 10 → IfAsked (command_of words.now) (F.held files.old) IsUnbuiltRun }
     ensures limited { result ≡ 7 → IfAsked (command_of words.now) (F.held files.old) Stops }
     ensures kept { (result ≡ 0 → ⊥) → (result ≡ 5 → ⊥) → out.new ≡ out.old }
+
+    // No more is taken of a file than shows that it is too long.
+    ensures taken { F.taken files.new ≤ F.taken files.old + 1048577 }
 
     // Where no file failed, each cause has its status, but for want of memory.
     ensures absent_comes { Steady (F.faults files.old) (F.faults files.new) → AsksForNone (command_of words.now) (F.held files.old) → result ≡ 3 }

@@ -1,6 +1,6 @@
 ghost use Rattle.std.specs.Prelude.{◌≡◌, ◌<◌, ◌≤◌, ℕ, IfOk, OnOk, OnErr, take, length, flat_map};
 ghost use Rattle.rt_edge.specs.Counts.{Rose};
-ghost use Rattle.rt_edge.specs.Contents.{HasGrown};
+ghost use Rattle.rt_edge.specs.Contents.{HasGrown, HasKept};
 
 use rt_edge::{Failed, Sink};
 
@@ -25,7 +25,7 @@ fn put_some<O: Sink>(out: &mut O, text: &[u8]) -> Result<usize, Failed>
     ensures some { IfOk result (λ n. (0 < n) × (n ≤ length text.now)) }
     ensures grown { IfOk result (λ n. HasGrown (O.holds out.old) (O.holds out.new) (take n text.now)) }
     ensures failed { OnErr result (Rose (O.faults out.old) (O.faults out.new)) }
-    ensures kept { OnErr result (O.holds out.new ≡ O.holds out.old) }
+    ensures kept { OnErr result (HasKept (O.holds out.old) (O.holds out.new)) }
     ensures faults { O.faults out.old ≤ O.faults out.new }
 {
     match out.put(front(text)) {

@@ -29,3 +29,8 @@ HasMoved (Some old) new n buffer = (take n buffer ++ drop n old ≡ old) × (new
 abbrev pub HasGrown : Option (List ℕ) → Option (List ℕ) → List ℕ → Type 0
 HasGrown None new piece = Unit {0}
 HasGrown (Some old) new piece = new ≡ Some (old ++ piece)
+
+-- what was told is as it was
+abbrev pub HasKept : Option (List ℕ) → Option (List ℕ) → Type 0
+HasKept None new = Unit {0}
+HasKept (Some old) new = new ≡ Some old

@@ -1,6 +1,6 @@
 ghost use Rattle.std.specs.Prelude.{◌≡◌, ◌<◌, ◌≤◌, ℕ, List, Option, length, IfOk, OnOk, OnErr, IsErrOf};
-ghost use Rattle.rt_edge.specs.Counts.{Rose};
-ghost use Rattle.rt_edge.specs.Contents.{Names, IsOpened, IsAbsent, HasNothingLeft, HasMoved};
+ghost use Rattle.rt_edge.specs.Counts.{Rose, RoseBy};
+ghost use Rattle.rt_edge.specs.Contents.{Names, IsOpened, IsAbsent, HasNothingLeft, HasMoved, HasKept};
 
 use crate::Failed;
 
@@ -27,11 +27,15 @@ pub trait Files {
     /// How many calls have failed, up to the type's last value.
     ghost faults: { Self → ℕ };
 
+    /// How many bytes were taken, up to the type's last value.
+    ghost taken: { Self → ℕ };
+
     /// Opens a file at its begin, in place of the one that was open. No file is open after a refusal.
     fn open(&mut self, name: &str) -> Result<(), OpenFault>
         ensures held { held self.new ≡ held self.old }
         ensures missing { missing self.old ≤ missing self.new }
         ensures faults { faults self.old ≤ faults self.new }
+        ensures taken { taken self.new ≡ taken self.old }
         ensures opened { OnOk result (IsOpened (held self.old) name.now (left self.new)) }
         ensures closed { OnErr result (HasNothingLeft (left self.new)) }
 
@@ -48,7 +52,9 @@ pub trait Files {
         ensures missing { missing self.old ≤ missing self.new }
         ensures faults { faults self.old ≤ faults self.new }
         ensures fits { IfOk result (λ n. n ≤ length buf.old) }
+        ensures taken { IfOk result (RoseBy (taken self.old) (taken self.new)) }
         ensures moved { IfOk result (λ n. HasMoved (left self.old) (left self.new) n buf.new) }
         ensures failed { OnErr result (Rose (faults self.old) (faults self.new)) }
-        ensures kept { OnErr result (left self.new ≡ left self.old) };
+        ensures kept { OnErr result (HasKept (left self.old) (left self.new)) }
+        ensures none { OnErr result (taken self.new ≡ taken self.old) };
 }

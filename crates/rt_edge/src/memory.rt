@@ -44,6 +44,7 @@ impl Model for MemFiles {
       left = m.shelf.left;
       missing = m.shelf.missing;
       faults = m.faults;
+      taken = m.shelf.taken;
     } };
 }
 
@@ -52,7 +53,7 @@ impl MemFiles {
     /// `most` bytes. The calls of `open` and `take` with these numbers, counted together from 1, fail.
     pub fn new(files: List<(List<u8>, List<u8>)>, most: usize, fails: List<u64>) -> MemFiles
         requires { 0 < most }
-        ensures { result ≡ record { files = files; left = []; missing = 0; faults = 0 } }
+        ensures { result ≡ record { files = files; left = []; missing = 0; faults = 0; taken = 0 } }
     {
         MemFiles {
             shelf: Shelf::new(files, most),
@@ -70,6 +71,8 @@ impl Files for MemFiles {
     ghost missing = { λ m. m.missing };
 
     ghost faults = { λ m. m.faults };
+
+    ghost taken = { λ m. m.taken };
 
     fn open(&mut self, name: &str) -> Result<(), OpenFault> {
         if self.calls.fails_next() {

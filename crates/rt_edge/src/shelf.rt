@@ -1,7 +1,7 @@
 ghost use Rattle.std.specs.Prelude.{◌≡◌, ◌<◌, ◌≤◌, [], length, take, IfSome, IfNone};
 ghost use Rattle.std.specs.Bool.{OnTrue, OnFalse};
 ghost use Rattle.rt_edge.specs.Contents.{HasMoved};
-ghost use Rattle.rt_edge.specs.Counts.{Rose};
+ghost use Rattle.rt_edge.specs.Counts.{Rose, RoseBy};
 ghost use Rattle.rt_edge.specs.Shelved.{names_of, content_of};
 
 use rt_base::List;
@@ -21,6 +21,7 @@ pub(crate) struct Shelf {
     most: usize,
     place: Option<Place>,
     missing: u64,
+    taken: u64,
 }
 
 impl Model for Shelf {
@@ -30,7 +31,7 @@ impl Model for Shelf {
 
     ghost Value = { SureFilesSeen };
 
-    ghost view = { λ s. record { files = s.files; left = left_of s.files s.place; missing = s.missing } };
+    ghost view = { λ s. record { files = s.files; left = left_of s.files s.place; missing = s.missing; taken = s.taken } };
 
     ghost invariant = { λ s. 0 < s.most };
 }
@@ -73,13 +74,14 @@ fn copy_front(from: &[u8], into: &mut [u8], most: usize) -> usize
 impl Shelf {
     pub(crate) fn new(files: List<(List<u8>, List<u8>)>, most: usize) -> Shelf
         requires { 0 < most }
-        ensures { result ≡ record { files = files; left = []; missing = 0 } }
+        ensures { result ≡ record { files = files; left = []; missing = 0; taken = 0 } }
     {
         Shelf {
             files,
             most,
             place: None,
             missing: 0,
+            taken: 0,
         }
     }
 
@@ -97,6 +99,7 @@ impl Shelf {
         ensures absent { OnFalse result (names_of self.old.files name.now ≡ None) }
         ensures closed { OnFalse result (self.new.left ≡ []) }
         ensures missing { self.old.missing ≤ self.new.missing }
+        ensures taken { self.new.taken ≡ self.old.taken }
         ensures missed { OnFalse result (Rose self.old.missing self.new.missing) }
     {
         let found = find(self.files.as_slice(), name.as_bytes());
@@ -112,7 +115,8 @@ impl Shelf {
         requires { 0 < length buf.old }
         ensures fits { result ≤ length buf.old }
         ensures moved { HasMoved (Some self.old.left) (Some self.new.left) result buf.new }
-        ensures kept { self.new ≡ record self.old { left = self.new.left } }
+        ensures taken { RoseBy self.old.taken self.new.taken result }
+        ensures kept { self.new ≡ record self.old { left = self.new.left; taken = self.new.taken } }
     {
         let Some(place) = self.place else {
             return 0;
@@ -127,6 +131,7 @@ impl Shelf {
             number: place.number,
             at: place.at + n,
         });
+        self.taken = self.taken.saturating_add(n as u64);
         n
     }
 }

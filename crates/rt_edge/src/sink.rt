@@ -1,6 +1,6 @@
 ghost use Rattle.std.specs.Prelude.{◌≡◌, ◌<◌, ◌≤◌, ℕ, List, Option, length, take, IfOk, OnErr};
 ghost use Rattle.rt_edge.specs.Counts.{Rose};
-ghost use Rattle.rt_edge.specs.Contents.{HasGrown};
+ghost use Rattle.rt_edge.specs.Contents.{HasGrown, HasKept};
 
 /// A call of the outside failed.
 #[derive(Clone, Copy, Debug, PartialEq, Eq)]
@@ -22,5 +22,5 @@ pub trait Sink {
         ensures some { IfOk result (λ n. 0 < length piece.now → 0 < n) }
         ensures grown { IfOk result (λ n. HasGrown (holds self.old) (holds self.new) (take n piece.now)) }
         ensures failed { OnErr result (Rose (faults self.old) (faults self.new)) }
-        ensures kept { OnErr result (holds self.new ≡ holds self.old) };
+        ensures kept { OnErr result (HasKept (holds self.old) (holds self.new)) };
 }

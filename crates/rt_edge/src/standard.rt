@@ -1,10 +1,10 @@
-ghost use Rattle.std.specs.Prelude.{◌≡◌, None};
+ghost use Rattle.std.specs.Prelude.{◌≡◌};
 
 use crate::{Failed, Sink};
 use std::io::Write;
 use std::marker::Model;
 
-/// A standard stream. It tells nothing of what it holds. Contracts see it as the count of its faults.
+/// A stream. What it holds is told where the stream tells it.
 #[derive(Drop)]
 pub struct StdSink<W: Write + Drop> {
     stream: W,
@@ -12,26 +12,26 @@ pub struct StdSink<W: Write + Drop> {
 }
 
 impl<W: Write + Drop> Model for StdSink<W> {
-    ghost use Rattle.std.specs.Prelude.{ℕ};
+    ghost use Rattle.rt_edge.specs.Seen.{StdSinkSeen};
 
-    ghost Value = { ℕ };
+    ghost Value = { StdSinkSeen };
 
-    ghost view = { λ s. s.faults };
+    ghost view = { λ s. record { holds = W.contents s.stream; faults = s.faults } };
 }
 
 impl<W: Write + Drop> StdSink<W> {
     /// A sink that writes to a stream.
     pub fn new(stream: W) -> StdSink<W>
-        ensures { result ≡ 0 }
+        ensures { result ≡ record { holds = W.contents stream; faults = 0 } }
     {
         StdSink { stream, faults: 0 }
     }
 }
 
 impl<W: Write + Drop> Sink for StdSink<W> {
-    ghost holds = { λ _. None };
+    ghost holds = { λ s. s.holds };
 
-    ghost faults = { λ s. s };
+    ghost faults = { λ s. s.faults };
 
     fn put(&mut self, piece: &[u8]) -> Result<usize, Failed> {
         match self.stream.write(piece) {

@@ -1,4 +1,4 @@
-ghost use Rattle.std.specs.Prelude.{◌≡◌, ◌<◌, [], Some, None};
+ghost use Rattle.std.specs.Prelude.{◌≡◌, ◌<◌, [], Some, None, Ok, length};
 ghost use Rattle.rt_edge.specs.Shelved.{names_of};
 
 use crate::shelf::Shelf;
@@ -25,7 +25,7 @@ impl SureFiles {
     /// `most` bytes.
     pub fn new(files: List<(List<u8>, List<u8>)>, most: usize) -> SureFiles
         requires { 0 < most }
-        ensures { result ≡ record { files = files; left = []; missing = 0 } }
+        ensures { result ≡ record { files = files; left = []; missing = 0; taken = 0 } }
     {
         SureFiles {
             shelf: Shelf::new(files, most),
@@ -41,6 +41,8 @@ impl Files for SureFiles {
     ghost missing = { λ s. s.missing };
 
     ghost faults = { λ s. 0 };
+
+    ghost taken = { λ s. s.taken };
 
     fn open(&mut self, name: &str) -> Result<(), OpenFault> {
         if self.shelf.open(name) {
@@ -71,7 +73,9 @@ impl Sink for SureSink {
 
     ghost faults = { λ _. 0 };
 
-    fn put(&mut self, piece: &[u8]) -> Result<usize, Failed> {
+    fn put(&mut self, piece: &[u8]) -> Result<usize, Failed>
+        ensures whole { result ≡ Ok (length piece.now) }
+    {
         Ok(piece.len())
     }
 }

@@ -27,9 +27,23 @@ impl Case {
         }))
     }
 
-    /// Adds a line to the file.
-    pub fn add_line(&mut self, line: &[u8]) -> Result<(), AllocError> {
-        self.file.extend_from_slice(line)?;
+    /// Adds a line to the file. `*N LINE` adds LINE N times, with the numbers from 0 on for `#` and newlines for `|`.
+    pub fn add_line(&mut self, alloc: Global, line: &[u8]) -> Result<(), AllocError> {
+        let Some((times, repeated)) = repetition(line) else {
+            return self.add_bytes(line);
+        };
+        for number in 0..times {
+            let digits = number.to_string(alloc)?;
+            let numbered = repeated.replace(alloc, '#', digits.as_str())?;
+            let lines = numbered.as_str().replace(alloc, '|', "\n")?;
+            self.add_bytes(lines.as_bytes())?;
+        }
+        Ok(())
+    }
+
+    // Adds some bytes and a newline.
+    fn add_bytes(&mut self, bytes: &[u8]) -> Result<(), AllocError> {
+        self.file.extend_from_slice(bytes)?;
         self.file.extend_from_slice(b"\n")
     }
 
@@ -40,6 +54,13 @@ impl Case {
         }
         &self.file[..self.file.len() - 1]
     }
+}
+
+// How often a line stands, and what it is, where it says this.
+fn repetition(line: &[u8]) -> Option<(u16, &str)> {
+    let text = str::from_utf8(line).ok()?;
+    let (times, repeated) = text.strip_prefix('*')?.split_once(' ')?;
+    Some((times.parse().ok()?, repeated))
 }
 
 // The words of a line.

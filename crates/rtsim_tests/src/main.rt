@@ -27,7 +27,7 @@ fn main(rt: HostRuntime) -> io::Result<()> {
             }
             None => {
                 if let Some(open) = &mut case {
-                    open.add_line(&line)?;
+                    open.add_line(alloc, &line)?;
                 }
             }
         }

@@ -8,6 +8,7 @@ invariant-loop-text g l = record {
   fits : vec_len l.text ≤ l.most + 1;
   faults : g.F.Files.faults l.initial.files ≤ g.F.Files.faults l.files;
   missing : g.F.Files.missing l.initial.files ≤ g.F.Files.missing l.files;
+  taken : g.F.Files.taken l.files ≤ g.F.Files.taken l.initial.files + vec_len l.text;
 }
 
 abbrev pub decreases-loop-text : goal.decreases-loop-text
