@@ -1,8 +1,8 @@
 ghost use Rattle.std.specs.Prelude.{◌≡◌, ◌≢◌, ◌+◌, ◌*◌, ◌<◌, ◌≤◌, [], ◌∷◌, None, Some, false, length, map, replicate, slice_set, IfOk, IfSome, IsTrue};
 ghost use Rattle.std.specs.Option.{option_map};
 ghost use Rattle.rt_plain.specs.Ownership.{awaited_in, base_edit, base_of, ceiling_edit, changes, cur_in, first_in, kill_mutex_edit, kill_thread_edit, leave_edit, member_at, owner_in, passes_of, release_edit, take_edit, taken_of, wait_edit, waiters_in, with_member};
-ghost use Rattle.rt_plain.specs.Weight.{ceiling_touches, edit_size};
-ghost use Rattle.mutex_chain.specs.Graph.{IsOther, took_of, released_of, hold_of, pair_of};
+ghost use Rattle.rt_plain.specs.Weight.{ceiling_touches, edit_size, release_touches};
+ghost use Rattle.mutex_chain.specs.Graph.{IsOther, is_last, took_of, released_of, hold_of, pair_of};
 ghost use Rattle.mutex_chain.specs.Equations.{IsOnce};
 ghost use Rattle.mutex_chain.specs.Owners.{AreOwned, has_thread, has_mutex, ceiling_at};
 
@@ -32,9 +32,10 @@ use std::sync::ledger::Ledger;
 /// after it and whose current priority it changed, in thread order, with both numbers; what the list
 /// held before is dropped. It has to have been made for at least as many threads as the graph.
 ///
-/// Only `new` takes memory. Each edit raises `steps`: `take`, `wait`, and a base or a ceiling that is at
-/// least as urgent as the one before, by at most 8 times the size of the edit (the weights of the chains
-/// of the threads that it touches, before and after it, and 1). Of the other edits nothing is said yet.
+/// Only `new` takes memory. Each edit raises `steps`: `take`, `wait`, a base or a ceiling that is at
+/// least as urgent as the one before, and a release that isn't the last one, by at most 8 times the size
+/// of the edit (the weights of the chains of the threads that it touches, before and after it, and 1). Of
+/// the other edits nothing is said yet.
 #[derive(Drop)]
 pub struct MutexGraph {
     owners: Owners,
@@ -271,10 +272,12 @@ impl MutexGraph {
         ensures threads { length self.new.members ≡ length self.old.members }
         ensures mutexes { length self.new.ceilings ≡ length self.old.ceilings }
         ensures changes { out.new ≡ record out.old { changes = changes self.old self.new } }
+        ensures cost { is_last thread (taken_of self.old mutex) ≡ false →
+            steps.new ≤ steps.old + 8 * edit_size self.old self.new (release_touches self.old thread mutex) }
     {
         steps.tick();
         if !self.owners.is_last_hold(thread, mutex) {
-            let released = self.owners.release(thread, mutex, None);
+            let released = self.owners.release(thread, mutex);
             self.owners.know_sound();
             strengthen(&self.owners, &mut self.curs, None, 0, out, steps);
             return released;
@@ -380,7 +383,15 @@ impl MutexGraph {
         ensures once { IsOnce self.now }
         ensures owned { AreOwned self.now }
     {
-        let _ = &self.curs;
+        // Each field with its type: a further one doesn't compile before it is named here too.
+        let MutexGraph {
+            owners,
+            curs,
+            before,
+        } = self;
+        let _: &Owners = owners;
+        let _: &Vec<u16> = curs;
+        let _: &Vec<u16> = before;
     }
 
     /// The current priority of a thread.
