@@ -9,14 +9,16 @@ use Rattle.std.proofs.lemmas.List.{get_or_past}
 use Rattle.std.proofs.lemmas.List.Elements.{All-get_or}
 use Rattle.std.proofs.lemmas.List.Sums.{sum_by-cons, sum_by-set}
 use Rattle.rt_plain.specs.Priority.{is_one_of}
-use Rattle.rt_plain.specs.Ownership.{Ownership, Member, member_at, base_of, owned_in, member_urgency, cur_in}
+use Rattle.rt_plain.specs.Ownership.{Ownership, CurChange, Member, member_at, base_of, owned_in, member_urgency, cur_in}
 use Rattle.mutex_chain.specs.Owners.{IsSound, IsSmall, blocker_in}
 use Rattle.mutex_chain.specs.Walks.{curs_of}
-use Rattle.mutex_chain.specs.Raising.{IsRaising}
+use Rattle.mutex_chain.specs.Graph.{changed_at, listed_at}
+use Rattle.mutex_chain.specs.Raising.{IsRaising, listed, put_change}
 use Rattle.mutex_chain.specs.Renewing.{IsAhead, IsChainSet, AreAside, IsMarking, IsLeast, IsRenewing, DiffersAt, fresh}
-use Rattle.mutex_chain.proofs.ChangeLemmas.{fold_le}
+use Rattle.mutex_chain.proofs.ChangeLemmas.{fold_le, filter_map_range}
 use Rattle.mutex_chain.proofs.CurLemmas.{blocker_within, cur_at, length-curs}
 use Rattle.mutex_chain.proofs.LawLemmas.{itself, only}
+use Rattle.mutex_chain.proofs.PutLemmas.{same_none, room_at, put_at, listed_same}
 use Rattle.mutex_chain.proofs.RaiseLemmas.{below_cur_in, owner_more}
 use Rattle.mutex_chain.proofs.StrongLemmas.{own_more, waiter_within}
 
@@ -240,21 +242,21 @@ pub renewing_on : (o : Ownership) (numbers : List ℕ) (left x number least : �
 renewing_on o numbers zero x number least s h r l = absurd (omega arith)
 renewing_on o numbers (suc left) x number least s h r l = let one : suc left - 1 ≡ left = omega arith in rw one (renewing_step o numbers left x number least s r l)
 
+nobody_left : (o : Ownership) (n : ℕ) (a : Option ℕ) (t : ℕ) → (n ≡ 0) ⊎ (a ≡ None) → IsAhead o n a t → ⊥
+nobody_left o zero a t e h = h
+nobody_left o (suc n) None t e h = h
+nobody_left o (suc n) (Some x) t (inl e) h = absurd (omega arith)
+nobody_left o (suc n) (Some x) t (inr e) h = none-some x (sym e)
+
 -- nobody is left: the number is carried on
 pub renewing_ends : (o : Ownership) (numbers : List ℕ) (left : ℕ) (at : Option ℕ) (number : ℕ) → IsRenewing o numbers left at number → (left ≡ 0) ⊎ (at ≡ None) → IsRaising o numbers at number
 renewing_ends o numbers left at number r end = record {
   places = r.places;
   high = r.high;
   low = r.low;
-  own = λ t h. ⊎_elim inl (λ a. absurd (nobody left at t end a)) (r.own t h);
-  edges = λ x t e. ⊎_elim inl (λ w. ⊎_elim inr (λ a. absurd (nobody left at t end a)) w) (r.edges x t e);
+  own = λ t h. ⊎_elim inl (λ a. absurd (nobody_left o left at t end a)) (r.own t h);
+  edges = λ x t e. ⊎_elim inl (λ w. ⊎_elim inr (λ a. absurd (nobody_left o left at t end a)) w) (r.edges x t e);
 }
-  where
-    nobody : (n : ℕ) (a : Option ℕ) (t : ℕ) → (n ≡ 0) ⊎ (a ≡ None) → IsAhead o n a t → ⊥
-    nobody zero a t e h = h
-    nobody (suc n) None t e h = h
-    nobody (suc n) (Some x) t (inl e) h = absurd (omega arith)
-    nobody (suc n) (Some x) t (inr e) h = none-some x (sym e)
 
 -- where no thread of a set waits for one outside, those outside are at least as urgent in the one as in the other if their edges are there
 less_outside : (o p : Ownership) (set : ℕ → Bool) → IsSound o → length o.members ≡ length p.members → ((t : ℕ) → set t ≡ false → member_urgency o t ≡ member_urgency p t)
@@ -353,3 +355,103 @@ least_waiter o numbers t below least waits l = record { own = omega (arith, l.ow
 
 pub least_ends : (o : Ownership) (numbers : List ℕ) (t below least : ℕ) → length o.members ≤ below → IsLeastBelow o numbers t below least → IsLeast o numbers t least
 least_ends o numbers t below least h l = record { own = l.own; edges = λ x f. let k : x < length o.members = waiter_within o x t f in l.edges x (omega arith) f; reached = l.reached }
+
+-- the numbers that no walk marked are right already
+pub marking_rest : (o : Ownership) (olds numbers : List ℕ) (from : Option ℕ) (count : ℕ) (at : Option ℕ) → AreAside o olds from → IsMarking o olds numbers from count at
+    → ((t : ℕ) → at ≡ Some t → slice_index numbers t ≡ 257) → (t : ℕ) → t < length o.members → (slice_index olds t ≡ cur_in o t) ⊎ IsAhead o count from t
+marking_rest o olds numbers from count at a m end t h = by_mark (cases_eq (slice_index numbers t) 257)
+  where
+    stays : (u : ℕ) → (slice_index numbers u ≡ 257) ⊎ (at ≡ Some u) → slice_index numbers u ≡ 257
+    stays u (inl e) = e
+    stays u (inr e) = end u e
+
+    closed : IsChainSet o from (λ u. eqb (slice_index numbers u) 257)
+    closed = record {
+      first = λ u e. eq-eqb (slice_index numbers u) 257 (stays u (m.first u e));
+      on = λ x u e f. eq-eqb (slice_index numbers u) 257 (stays u (m.on x u (eqb-true (slice_index numbers x) 257 e) f));
+    }
+
+    by_mark : (slice_index numbers t ≡ 257) ⊎ (slice_index numbers t ≢ 257) → (slice_index olds t ≡ cur_in o t) ⊎ IsAhead o count from t
+    by_mark (inl e) = inr (m.behind t e)
+    by_mark (inr ne) = inl (a.right (λ u. eqb (slice_index numbers u) 257) closed t h (ne_eqb (slice_index numbers t) 257 ne))
+
+-- numbers of which the changes of so many threads of a chain are still to be listed
+pub record IsListing (o : Ownership) (olds numbers news : List ℕ) (left : ℕ) (at : Option ℕ) (out : List CurChange) : Type 0 where
+  pub places : length numbers ≡ length o.members
+  pub within : (t : ℕ) → at ≡ Some t → t < length o.members
+  pub mixed : (t : ℕ) → (slice_index numbers t ≡ slice_index olds t) ⊎ (slice_index numbers t ≡ slice_index news t)
+  pub along : (t : ℕ) → t < length o.members → (slice_index numbers t ≡ slice_index news t) ⊎ IsAhead o left at t
+  pub changes : out ≡ listed o olds numbers
+
+pub listing_begins : (o : Ownership) (olds news : List ℕ) (count : ℕ) (from : Option ℕ) → length olds ≡ length o.members → ((t : ℕ) → from ≡ Some t → t < length o.members)
+    → ((t : ℕ) → t < length o.members → (slice_index olds t ≡ slice_index news t) ⊎ IsAhead o count from t) → IsListing o olds olds news count from []
+listing_begins o olds news count from places within along = record { places = places; within = within; mixed = λ t. inl refl; along = along; changes = listed_same o olds }
+
+-- there is room where a thread has a change
+pub listing_room : (o : Ownership) (olds numbers news : List ℕ) (left x : ℕ) (out : List CurChange) (c : CurChange) → IsListing o olds numbers news left (Some x) out
+    → changed_at o x (slice_index numbers x) (slice_index news x) ≡ Some c → length out < length o.members
+listing_room o olds numbers news left x out c l e = rw l.changes (by_case (l.mixed x))
+  where
+    by_case : (slice_index numbers x ≡ slice_index olds x) ⊎ (slice_index numbers x ≡ slice_index news x) → length (listed o olds numbers) < length o.members
+    by_case (inl still) = room_at o olds numbers x still (l.within x refl)
+    by_case (inr same) = absurd (none-some c (sym (same_none o x (slice_index news x)) ∙ sym (ap (λ a. changed_at o x a (slice_index news x)) same) ∙ e))
+
+set_same : (numbers : List ℕ) (x : ℕ) → slice_set numbers x (slice_index numbers x) ≡ numbers
+set_same [] x = refl
+set_same (n ∷ ns) zero = refl
+set_same (n ∷ ns) (suc x) = ap (λ l. n ∷ l) (set_same ns x)
+
+pub listing_step : (o : Ownership) (olds numbers news : List ℕ) (left x : ℕ) (out : List CurChange) → IsSound o → 0 < left → IsListing o olds numbers news left (Some x) out
+    → IsListing o olds (slice_set numbers x (slice_index news x)) news (left - 1) (blocker_in o x) (put_change (changed_at o x (slice_index numbers x) (slice_index news x)) out)
+listing_step o olds numbers news zero x out s h l = absurd (omega arith)
+listing_step o olds numbers news (suc left) x out s h l =
+    let one : suc left - 1 ≡ left = omega arith in
+    rw one (record {
+      places = length-set numbers x (slice_index news x) ∙ l.places;
+      within = λ t e. blocker_within o x t s e;
+      mixed = λ t. mixed t (cases_eq t x) (l.mixed t);
+      along = λ t k. along t (cases_eq t x) (l.along t k);
+      changes = changes (l.mixed x);
+    })
+  where
+    place : x < length numbers
+    place = omega (arith, l.places, l.within x refl)
+
+    here : (t : ℕ) → t ≡ x → get_or (slice_set numbers x (slice_index news x)) t 0 ≡ slice_index news t
+    here t e = ap (λ i. get_or (slice_set numbers x (slice_index news x)) i 0) e ∙ get_or-set_same numbers x (slice_index news x) 0 place ∙ sym (ap (slice_index news) e)
+
+    there : (t : ℕ) → t ≢ x → get_or (slice_set numbers x (slice_index news x)) t 0 ≡ slice_index numbers t
+    there t ne = get_or-set_other numbers x t (slice_index news x) 0 ne
+
+    mixed : (t : ℕ) → (t ≡ x) ⊎ (t ≢ x) → (slice_index numbers t ≡ slice_index olds t) ⊎ (slice_index numbers t ≡ slice_index news t)
+        → (get_or (slice_set numbers x (slice_index news x)) t 0 ≡ slice_index olds t) ⊎ (get_or (slice_set numbers x (slice_index news x)) t 0 ≡ slice_index news t)
+    mixed t (inl e) w = inr (here t e)
+    mixed t (inr ne) (inl e) = inl (there t ne ∙ e)
+    mixed t (inr ne) (inr e) = inr (there t ne ∙ e)
+
+    along : (t : ℕ) → (t ≡ x) ⊎ (t ≢ x) → (slice_index numbers t ≡ slice_index news t) ⊎ ((x ≡ t) ⊎ IsAhead o left (blocker_in o x) t)
+        → (get_or (slice_set numbers x (slice_index news x)) t 0 ≡ slice_index news t) ⊎ IsAhead o left (blocker_in o x) t
+    along t (inl e) w = inl (here t e)
+    along t (inr ne) (inl e) = inl (there t ne ∙ e)
+    along t (inr ne) (inr (inl e)) = absurd (ne (sym e))
+    along t (inr ne) (inr (inr a)) = inr a
+
+    changes : (slice_index numbers x ≡ slice_index olds x) ⊎ (slice_index numbers x ≡ slice_index news x)
+        → put_change (changed_at o x (slice_index numbers x) (slice_index news x)) out ≡ listed o olds (slice_set numbers x (slice_index news x))
+    changes (inl still) = ap (put_change (changed_at o x (slice_index numbers x) (slice_index news x))) l.changes ∙ put_at o olds numbers x (slice_index news x) still (l.within x refl) l.places
+    changes (inr same) =
+        ap (λ a. put_change (changed_at o x a (slice_index news x)) out) same
+        ∙ ap (λ c. put_change c out) (same_none o x (slice_index news x))
+        ∙ l.changes
+        ∙ sym (ap (listed o olds) (set_same numbers x))
+        ∙ ap (λ a. listed o olds (slice_set numbers x a)) same
+
+-- all is listed
+pub listing_ends : (o : Ownership) (olds numbers news : List ℕ) (left : ℕ) (at : Option ℕ) (out : List CurChange) → IsListing o olds numbers news left at out → (left ≡ 0) ⊎ (at ≡ None)
+    → out ≡ listed o olds news
+listing_ends o olds numbers news left at out l end =
+    l.changes ∙ filter_map_range (listed_at o olds numbers) (listed_at o olds news) 0 (length o.members) (λ t low high. ap (changed_at o t (slice_index olds t)) (same t (l.along t (omega arith))))
+  where
+    same : (t : ℕ) → (slice_index numbers t ≡ slice_index news t) ⊎ IsAhead o left at t → slice_index numbers t ≡ slice_index news t
+    same t (inl e) = e
+    same t (inr a) = absurd (nobody_left o left at t end a)

@@ -1,9 +1,10 @@
-ghost use Rattle.std.specs.Prelude.{ℕ, ◌≡◌, ◌<◌, ◌≤◌, length, min, IfSome};
+ghost use Rattle.std.specs.Prelude.{ℕ, ◌≡◌, ◌⊎◌, ◌<◌, ◌≤◌, Some, length, min, slice_index, IfSome};
 ghost use Rattle.std.specs.List.{filter_map, range_with_len};
 ghost use Rattle.rt_plain.specs.Ownership.{Ownership, member_urgency, changes, first_in, waiters_in};
 ghost use Rattle.mutex_chain.specs.Graph.{Keeps, changed_at, listed_at};
 ghost use Rattle.mutex_chain.specs.Owners.{IsSound, blocker_in};
-ghost use Rattle.mutex_chain.specs.Renewing.{AreAside};
+ghost use Rattle.mutex_chain.specs.Raising.{listed};
+ghost use Rattle.mutex_chain.specs.Renewing.{AreAside, IsAhead};
 ghost use Rattle.mutex_chain.specs.Walks.{carried, urgencies_of, curs_of};
 
 use crate::changes::{Change, Changes};
@@ -76,8 +77,47 @@ pub fn renew<L: Ledger>(
         out.new ≡ record out.old { changes = changes o owners.now } }
 {
     before.copy_from_slice(curs);
-    renew_chain(owners, curs, from, out, steps);
-    list_changes(owners, before, curs, out);
+    let count = renew_chain(owners, curs, &from, out, steps);
+    list_along(owners, before, curs, from, count, out);
+}
+
+// Lists the changes of so many threads along a chain, where nobody else has one. The numbers before become
+// those after, so that none is listed twice.
+fn list_along(
+    owners: &Owners,
+    before: &mut Vec<u16>,
+    after: &[u16],
+    from: Option<ThreadNo>,
+    count: u16,
+    out: &mut Changes,
+)
+    requires before { length before.old.items ≡ length owners.now.members }
+    requires after { length after.now ≡ length owners.now.members }
+    requires within { (t : ℕ) → from ≡ Some t → t < length owners.now.members }
+    requires sound { IsSound owners.now }
+    requires along { (t : ℕ) → t < length owners.now.members →
+        (slice_index before.old.items t ≡ slice_index after.now t) ⊎ IsAhead owners.now count from t }
+    requires room { length owners.now.members ≤ out.old.threads }
+    ensures places { length before.new.items ≡ length owners.now.members }
+    ensures listed { out.new ≡ record out.old { changes = listed owners.now before.old.items after.now } }
+{
+    out.clear();
+    let mut left = count;
+    let mut at = from;
+    while left > 0 {
+        let Some(thread) = at else {
+            break;
+        };
+        left -= 1;
+        let place = thread.0 as usize;
+        let old = before[place];
+        let new = after[place];
+        before[place] = new;
+        if let Some(change) = change_of(owners, thread, old, new) {
+            out.put(change);
+        }
+        at = owners.blocker(thread);
+    }
 }
 
 // Lists the threads that are there and whose numbers differ.

@@ -1,8 +1,9 @@
-ghost use Rattle.std.specs.Prelude.{ℕ, ◌≡◌, ◌<◌, ◌≤◌, Some, false, length, map, All, IfSome};
+ghost use Rattle.std.specs.Prelude.{ℕ, ◌≡◌, ◌<◌, ◌≤◌, List, Some, false, length, map, All, IfSome};
 ghost use Rattle.std.specs.List.{filter_map};
 ghost use Rattle.rt_plain.specs.Ownership.{first_in, leave_edit, leave_edits, owned_in, owner_in, pass_edit_to, pass_edits, passes_from, waiters_in};
 ghost use Rattle.mutex_chain.specs.Graph.{pair_of, place_of, row_in};
 ghost use Rattle.mutex_chain.specs.Owners.{IsSound, has_thread};
+ghost use Rattle.mutex_chain.specs.Renewing.{AreAside};
 ghost use Rattle.mutex_chain.specs.Walks.{curs_of};
 
 use crate::changes::Changes;
@@ -68,30 +69,20 @@ pub fn leave_all(owners: &mut Owners, threads: &[ThreadNo])
     }
 }
 
-// A thread waits no more. The chain of whom it waited for is computed anew.
-pub fn end_wait<L: Ledger>(
-    owners: &mut Owners,
-    curs: &mut Vec<u16>,
-    thread: ThreadNo,
-    out: &mut Changes,
-    steps: &mut Steps<L>,
-)
-    requires curs { curs.old.items ≡ curs_of owners.old }
-    requires thread { thread < length owners.old.members }
-    requires room { length owners.old.members ≤ out.old.threads }
+// A thread waits no more. The answer is whom it waited for: the numbers are right but along the chain of that one.
+pub fn end_wait(owners: &mut Owners, thread: ThreadNo) -> Option<ThreadNo>
+    requires { thread < length owners.old.members }
     ensures owners { owners.new ≡ leave_edit thread owners.old }
     ensures sound { IsSound owners.new }
     ensures places { length owners.new.members ≡ length owners.old.members }
     ensures mutexes { length owners.new.ceilings ≡ length owners.old.ceilings }
-    ensures curs { curs.new.items ≡ curs_of owners.new }
-    ensures numbers { length curs.new.items ≡ length owners.new.members }
-    ensures room { out.new.threads ≡ out.old.threads }
+    ensures aside { (numbers : List ℕ) → numbers ≡ curs_of owners.old → AreAside owners.new numbers result }
 {
     owners.know_sound();
     let owner = owners.blocker(thread);
     owners.set_wait(thread, None);
     owners.know_sound();
-    renew_chain(owners, curs, owner, out, steps);
+    owner
 }
 
 // A mutex passes from its owner to this waiter, or to nobody. The chain of the owner is computed anew, and then
@@ -122,11 +113,11 @@ pub fn hand_on<L: Ledger>(
     owners.know_sound();
     owners.free(mutex);
     owners.know_sound();
-    renew_chain(owners, curs, Some(thread), out, steps);
+    renew_chain(owners, curs, &Some(thread), out, steps);
     if let Some(waiter) = first {
         owners.pass(mutex, Some(*waiter));
         owners.know_sound();
-        renew_chain(owners, curs, Some(*waiter), out, steps);
+        renew_chain(owners, curs, &Some(*waiter), out, steps);
     }
 }
 

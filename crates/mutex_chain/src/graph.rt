@@ -250,9 +250,15 @@ impl MutexGraph {
         ensures changes { out.new ≡ record out.old { changes = changes self.old self.new } }
     {
         steps.tick();
-        self.before.copy_from_slice(&self.curs);
-        end_wait(&mut self.owners, &mut self.curs, thread, out, steps);
-        list_changes(&self.owners, &self.before, &self.curs, out);
+        let owner = end_wait(&mut self.owners, thread);
+        renew(
+            &self.owners,
+            &mut self.curs,
+            &mut self.before,
+            owner,
+            out,
+            steps,
+        );
     }
 
     /// A thread releases a mutex: its owner holds it once less, and at the last time it passes to the
@@ -354,10 +360,11 @@ impl MutexGraph {
     {
         steps.tick();
         self.before.copy_from_slice(&self.curs);
-        end_wait(&mut self.owners, &mut self.curs, thread, out, steps);
+        let owner = end_wait(&mut self.owners, thread);
+        renew_chain(&self.owners, &mut self.curs, &owner, out, steps);
         self.owners.set_member(thread, None);
         self.owners.know_sound();
-        renew_chain(&self.owners, &mut self.curs, Some(thread), out, steps);
+        renew_chain(&self.owners, &mut self.curs, &Some(thread), out, steps);
         give_back(&mut self.owners, &mut self.curs, thread, passes, out, steps);
         list_changes(&self.owners, &self.before, &self.curs, out);
     }

@@ -1,6 +1,7 @@
-ghost use Rattle.std.specs.Prelude.{◌≡◌, ◌<◌, ◌≤◌, length};
+ghost use Rattle.std.specs.Prelude.{ℕ, ◌≡◌, ◌⊎◌, ◌<◌, ◌≤◌, length, slice_index};
+ghost use Rattle.rt_plain.specs.Ownership.{cur_in};
 ghost use Rattle.mutex_chain.specs.Owners.{IsSound};
-ghost use Rattle.mutex_chain.specs.Renewing.{AreAside, IsLeast, IsRenewing};
+ghost use Rattle.mutex_chain.specs.Renewing.{AreAside, IsAhead, IsLeast, IsRenewing};
 ghost use Rattle.mutex_chain.specs.Walks.{curs_of};
 
 use crate::changes::Changes;
@@ -15,30 +16,35 @@ const MARK: u16 = 257;
 // Computes the numbers along a thread's chain of owners anew, where all others are right. A first walk marks
 // the chain, round its ring if it ends in one. A second takes the least number of each thread, at which a
 // marked waiter doesn't count. So round a ring the last one has the least of all, and a third walk carries
-// it on.
+// it on. The answer is how many threads of the chain were marked: no other number changed.
 pub fn renew_chain<L: Ledger>(
     owners: &Owners,
     curs: &mut Vec<u16>,
-    from: Option<ThreadNo>,
+    from: &Option<ThreadNo>,
     out: &mut Changes,
     steps: &mut Steps<L>,
-)
-    requires aside { AreAside owners.now curs.old.items from }
+) -> u16
+    requires aside { AreAside owners.now curs.old.items from.now }
     requires sound { IsSound owners.now }
     requires room { length owners.now.members ≤ out.old.threads }
     ensures curs { curs.new.items ≡ curs_of owners.now }
     ensures places { length curs.new.items ≡ length owners.now.members }
     ensures room { out.new.threads ≡ out.old.threads }
+    ensures along { (t : ℕ) → t < length owners.now.members →
+        (slice_index curs.old.items t ≡ slice_index curs.new.items t) ⊎ IsAhead owners.now result from.now t }
 {
-    let count = mark_chain(owners, curs, &from);
+    let count = mark_chain(owners, curs, from);
     renew_marked(owners, curs, from, count, out, steps);
+    count
 }
 
 // Marks the threads along a chain. The answer is how many they are.
 fn mark_chain(owners: &Owners, numbers: &mut Vec<u16>, from: &Option<ThreadNo>) -> u16
     requires aside { AreAside owners.now numbers.old.items from.now }
     requires sound { IsSound owners.now }
-    ensures { IsRenewing owners.now numbers.new.items result from.now 257 }
+    ensures renewing { IsRenewing owners.now numbers.new.items result from.now 257 }
+    ensures rest { (t : ℕ) → t < length owners.now.members →
+        (slice_index numbers.old.items t ≡ cur_in owners.now t) ⊎ IsAhead owners.now result from.now t }
 {
     let mut count = 0;
     let mut at = *from;
@@ -58,12 +64,12 @@ fn mark_chain(owners: &Owners, numbers: &mut Vec<u16>, from: &Option<ThreadNo>) 
 fn renew_marked<L: Ledger>(
     owners: &Owners,
     curs: &mut Vec<u16>,
-    from: Option<ThreadNo>,
+    from: &Option<ThreadNo>,
     count: u16,
     out: &mut Changes,
     steps: &mut Steps<L>,
 )
-    requires renewing { IsRenewing owners.now curs.old.items count from 257 }
+    requires renewing { IsRenewing owners.now curs.old.items count from.now 257 }
     requires sound { IsSound owners.now }
     requires room { length owners.now.members ≤ out.old.threads }
     ensures curs { curs.new.items ≡ curs_of owners.now }
@@ -71,7 +77,7 @@ fn renew_marked<L: Ledger>(
     ensures room { out.new.threads ≡ out.old.threads }
 {
     let mut left = count;
-    let mut at = from;
+    let mut at = *from;
     let mut number = MARK;
     while left > 0 {
         let Some(thread) = at else {
