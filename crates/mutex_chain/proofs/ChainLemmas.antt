@@ -2,6 +2,7 @@
 use Rattle.std.proofs.Common.{ℕ, ◌≡◌, ◌≢◌, ◌+◌, ◌*◌, ◌<◌, ◌≤◌, zero, suc, List, [], ◌∷◌, ◌++◌, length, Bool, true, false, not, cond, ◌||◌, ◌&&◌, eqb, Option, Some, None, refl, sym, ap, ◌∙◌, arith, ◌⊎◌, inl, inr, ⊎_elim, get_or-set_same, get_or-set_other}
 use Rattle.std.specs.Prelude.{filter, nat_lt, sum_by, slice_index, slice_set}
 use Rattle.std.specs.List.{range_with_len, list_any}
+use Rattle.std.specs.Bool.{then_some}
 use Rattle.std.specs.Option.{option_to_list}
 use Rattle.std.proofs.lemmas.Bool.{cases_eq, or_cases, or_left, or_right, and_from, false≢true, lt-ltb, le-ltb}
 use Rattle.std.proofs.lemmas.Option.{none-some}
@@ -243,3 +244,7 @@ pub from_cost : (o p : Ownership) (from : Option ℕ) (old new : ℕ) → ((t : 
     → new + 6 ≤ old + 8 * edit_size o p (option_to_list from)
 from_cost o p None old new within nobody cost = omega (arith, nobody refl)
 from_cost o p (Some t) old new within nobody cost = omega (arith, cost (t ∷ []) t (itself t) (within t refl) (leads_here p t (within t refl)))
+
+pub leads_then : (o : Ownership) (t : ℕ) (from : Option ℕ) (starts : Bool) → t < length o.members → from ≡ then_some starts t → LeadsTo o t from
+leads_then o t from true h e = rw e (leads_here o t h)
+leads_then o t from false h e = rw e tt

@@ -3,7 +3,7 @@ use Rattle.std.proofs.Common.{ℕ, ◌≡◌, ◌+◌, ◌-◌, ◌<◌, ◌≤�
 use Rattle.std.specs.Prelude.{fold, min, slice_index, slice_index_or}
 use Rattle.std.specs.List.{filter_map, range_with_len, cons_option}
 use Rattle.std.proofs.lemmas.Bool.{cases_lt, false≢true}
-use Rattle.std.proofs.lemmas.List.{get_or_past}
+use Rattle.std.proofs.lemmas.List.{append-nil, get_or_past}
 use Rattle.std.proofs.lemmas.List.Elements.{All-get_or}
 use Rattle.rt_plain.specs.kernel.Priority.{urgency_of, reach}
 use Rattle.rt_plain.specs.kernel.Ownership.{Ownership, Member, CurChange, member_at, base_of, is_there, member_urgency, owned_in, graph_in, cur_in, change_at, changes}
@@ -85,3 +85,8 @@ pub list_none : {X : Type 0} (f : ℕ → Option X) (out all : List X) (n t : �
 list_none f out all n t h e at =
     sym (ap (λ r. out ++ cons_option r (filter_map f (range_with_len (t + 1) (n - (t + 1))))) e)
     ∙ sym (ap (λ ts. out ++ filter_map f ts) (range_step n t h)) ∙ at
+
+pub list_end : {X : Type 0} (f : ℕ → Option X) (out all : List X) (n t : ℕ) → t ≡ n → out ++ filter_map f (range_with_len t (n - t)) ≡ all → out ≡ all
+list_end f out all n t e at =
+    let none : n - t ≡ 0 = omega arith in
+    sym (append-nil out) ∙ sym (ap (λ k. out ++ filter_map f (range_with_len t k)) none) ∙ at

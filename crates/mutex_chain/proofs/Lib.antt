@@ -17,3 +17,5 @@ pub mod TakeLemmas
 pub mod TouchLemmas
 pub mod UrgencyLemmas
 pub mod WalkLemmas
+pub mod RenewLemmas
+pub mod EditLemmas

@@ -10,7 +10,7 @@ use Rattle.std.proofs.lemmas.List.{get_or_past}
 use Rattle.rt_base.specs.declared.codes.WaitOrder.{WaitOrder}
 use Rattle.rt_plain.specs.kernel.State.{is_among}
 use Rattle.rt_plain.specs.kernel.Waiting.{Waiter, stands_before, put_in_order, in_order}
-use Rattle.rt_plain.specs.kernel.Ownership.{Ownership, Member, MutexWait, Taken, member_at, wait_of, awaited_in, taken_of, owner_in, owned_in, wait_row, waiters_in, wait_rows_in, first_in, with_member, with_wait, leave_edit, leave_edits, with_mutex_free, with_mutex_got, with_taken_times, take_edit, take_edit_of, pass_edit_to, pass_edit, pass_edits, release_edit, release_edit_of, kill_mutex_edit, kill_thread_edit}
+use Rattle.rt_plain.specs.kernel.Ownership.{Ownership, Member, MutexWait, Taken, member_at, wait_of, awaited_in, taken_of, owner_in, owned_in, wait_row, waiters_in, wait_rows_in, first_in, with_member, with_base, base_edit, with_wait, leave_edit, leave_edits, with_mutex_free, with_mutex_got, with_taken_times, take_edit, take_edit_of, pass_edit_to, pass_edit, pass_edits, release_edit, release_edit_of, kill_mutex_edit, kill_thread_edit}
 use Rattle.mutex_chain.specs.Owners.{AreOwned}
 use Rattle.mutex_chain.specs.Graph.{row_in}
 use Rattle.mutex_chain.proofs.OwnerLemmas.{others}
@@ -39,12 +39,19 @@ owned_row o t row f a = kept_owned o (with_member o t row) (λ x m e. (by_place 
 owned_gone : (o : Ownership) (t : ℕ) → AreOwned o → AreOwned (with_member o t None)
 owned_gone o t a = owned_row o t None (λ m e. absurd (none-some m e)) a
 
-left_awaits : (m : Option Member) → awaited_by (option_map (with_wait None) m) ≡ None
+pub left_awaits : (m : Option Member) → awaited_by (option_map (with_wait None) m) ≡ None
 left_awaits None = refl
 left_awaits (Some m) = refl
 
 pub owned_leave : (o : Ownership) (t : ℕ) → AreOwned o → AreOwned (leave_edit t o)
 owned_leave o t a = owned_row o t (option_map (with_wait None) (member_at o t)) (λ m e. absurd (none-some m (sym (left_awaits (member_at o t)) ∙ e))) a
+
+pub based_awaits : (base : ℕ) (m : Option Member) → awaited_by (option_map (with_base base) m) ≡ awaited_by m
+based_awaits base None = refl
+based_awaits base (Some m) = refl
+
+pub owned_base : (o : Ownership) (t base : ℕ) → AreOwned o → AreOwned (base_edit t base o)
+owned_base o t base a = owned_row o t (option_map (with_base base) (member_at o t)) (λ m e. sym (based_awaits base (member_at o t)) ∙ e) a
 
 -- the owner of another mutex than the one that is got
 pub got_other : (o : Ownership) (m t k : ℕ) → k ≢ m → owner_in (with_mutex_got m t o) k ≡ owner_in o k
@@ -92,7 +99,7 @@ among_put w (v ∷ vs) t = by_test (stands_before WaitOrder.Prio w v) (among_put
     by_test true e = refl
     by_test false e = ap (λ b. eqb v.thread t || b) e ∙ or_swap (eqb w.thread t) (eqb v.thread t) (is_among (map (λ (w : Waiter). w.thread) vs) t)
 
-among_order : (ws : List Waiter) (t : ℕ) → is_among (map (λ (w : Waiter). w.thread) (in_order WaitOrder.Prio ws)) t ≡ is_among (map (λ (w : Waiter). w.thread) ws) t
+pub among_order : (ws : List Waiter) (t : ℕ) → is_among (map (λ (w : Waiter). w.thread) (in_order WaitOrder.Prio ws)) t ≡ is_among (map (λ (w : Waiter). w.thread) ws) t
 among_order [] t = refl
 among_order (w ∷ ws) t = among_put w (in_order WaitOrder.Prio ws) t ∙ ap (λ b. eqb w.thread t || b) (among_order ws t)
 
@@ -123,7 +130,7 @@ awaited_row o t m e = by_wait (wait_of o t) e
     by_wait None f = absurd (none-some m f)
     by_wait (Some w) f = let same : w.mutex ≡ m = cc in by_test _ (w.mutex == m) (eq-eqb w.mutex m same)
 
-awaited_within : (o : Ownership) (t m : ℕ) → awaited_in o t ≡ Some m → t < length o.members
+pub awaited_within : (o : Ownership) (t m : ℕ) → awaited_in o t ≡ Some m → t < length o.members
 awaited_within o t m e = ⊎_elim (λ low. low) (λ high. absurd (none-some m (sym (ap awaited_by (get_or_past o.members t None high)) ∙ e))) (cases_lt t (length o.members))
 
 -- who waits on a mutex is among its waiters

@@ -9,7 +9,7 @@ use Rattle.mutex_chain.specs.Graph.{changed_at, listed_at}
 use Rattle.mutex_chain.specs.Raising.{AreRaised, listed, place_among, put_change}
 use Rattle.mutex_chain.proofs.ChangeLemmas.{filter_map_range}
 
-same_none : (o : Ownership) (t a : ℕ) → changed_at o t a a ≡ None
+pub same_none : (o : Ownership) (t a : ℕ) → changed_at o t a a ≡ None
 same_none o t a = by_test (has_thread o t) (eqb a a) (eq-eqb a a refl)
   where
     by_test : (b c : Bool) → c ≡ true → cond {A = Option CurChange} (b && not c) (Some (record { thread = t; old = min a 255; new = min a 255 })) None ≡ None
@@ -117,14 +117,16 @@ unraised olds numbers x number r above = by_case (r x)
     by_case (inl e) = e
     by_case (inr e) = absurd (omega arith)
 
-no_change : (o : Ownership) (olds numbers : List ℕ) (x number : ℕ) → AreRaised olds numbers number → number < slice_index numbers x → listed_at o olds numbers x ≡ None
-no_change o olds numbers x number r above =
-    ap (λ a. changed_at o x (slice_index olds x) a) (unraised olds numbers x number r above) ∙ same_none o x (slice_index olds x)
+no_change : (o : Ownership) (olds numbers : List ℕ) (x : ℕ) → slice_index numbers x ≡ slice_index olds x → listed_at o olds numbers x ≡ None
+no_change o olds numbers x still = ap (λ a. changed_at o x (slice_index olds x) a) still ∙ same_none o x (slice_index olds x)
 
--- there is room for one change more
+-- there is room for the change of a thread that has none yet
+pub room_at : (o : Ownership) (olds numbers : List ℕ) (x : ℕ) → slice_index numbers x ≡ slice_index olds x → x < length o.members → length (listed o olds numbers) < length o.members
+room_at o olds numbers x still h = fewer (listed_at o olds numbers) x 0 (length o.members) (omega arith) (omega arith) (no_change o olds numbers x still)
+
 pub listed_room : (o : Ownership) (olds numbers : List ℕ) (x number : ℕ) → AreRaised olds numbers number → number < slice_index numbers x → x < length o.members
     → length (listed o olds numbers) < length o.members
-listed_room o olds numbers x number r above h = fewer (listed_at o olds numbers) x 0 (length o.members) (omega arith) (omega arith) (no_change o olds numbers x number r above)
+listed_room o olds numbers x number r above h = room_at o olds numbers x (unraised olds numbers x number r above) h
 
 pub raised_more : (olds numbers : List ℕ) (x number : ℕ) → x < length numbers → AreRaised olds numbers number → AreRaised olds (slice_set numbers x number) number
 raised_more olds numbers x number h r t = by_place (cases_eq t x) (r t)
@@ -136,10 +138,10 @@ raised_more olds numbers x number h r t = by_place (cases_eq t x) (r t)
     by_place (inr ne) (inr e) = inr (get_or-set_other numbers x t number 0 ne ∙ e)
 
 -- the change of one number more is put in
-pub listed_put : (o : Ownership) (olds numbers : List ℕ) (x number : ℕ) → AreRaised olds numbers number → number < slice_index numbers x → x < length o.members → length numbers ≡ length o.members
+pub put_at : (o : Ownership) (olds numbers : List ℕ) (x number : ℕ) → slice_index numbers x ≡ slice_index olds x → x < length o.members → length numbers ≡ length o.members
     → put_change (changed_at o x (slice_index numbers x) number) (listed o olds numbers) ≡ listed o olds (slice_set numbers x number)
-listed_put o olds numbers x number r above h places =
-    ap (λ a. put_change (changed_at o x a number) (listed o olds numbers)) (unraised olds numbers x number r above)
+put_at o olds numbers x number still h places =
+    ap (λ a. put_change (changed_at o x a number) (listed o olds numbers)) still
     ∙ by_change (changed_at o x (slice_index olds x) number) refl
   where
     here : listed_at o olds (slice_set numbers x number) x ≡ changed_at o x (slice_index olds x) number
@@ -149,7 +151,7 @@ listed_put o olds numbers x number r above h places =
     there t ne = sym (ap (λ a. changed_at o t (slice_index olds t) a) (get_or-set_other numbers x t number 0 ne))
 
     everywhere : (t : ℕ) → listed_at o olds (slice_set numbers x number) x ≡ None → (t ≡ x) ⊎ (t ≢ x) → listed_at o olds numbers t ≡ listed_at o olds (slice_set numbers x number) t
-    everywhere t none (inl e) = ap (listed_at o olds numbers) e ∙ no_change o olds numbers x number r above ∙ sym none ∙ sym (ap (listed_at o olds (slice_set numbers x number)) e)
+    everywhere t none (inl e) = ap (listed_at o olds numbers) e ∙ no_change o olds numbers x still ∙ sym none ∙ sym (ap (listed_at o olds (slice_set numbers x number)) e)
     everywhere t none (inr ne) = there t ne
 
     by_change : (c : Option CurChange) → changed_at o x (slice_index olds x) number ≡ c → put_change c (listed o olds numbers) ≡ listed o olds (slice_set numbers x number)
@@ -157,7 +159,11 @@ listed_put o olds numbers x number r above h places =
     by_change (Some c) e =
         put_some (listed_at o olds numbers) (listed_at o olds (slice_set numbers x number)) c x 0 (length o.members)
         (λ t d k. changed_thread o t (slice_index olds t) (slice_index numbers t) d k) (changed_thread o x (slice_index olds x) number c e)
-        (omega arith) (omega arith) (no_change o olds numbers x number r above) (here ∙ e) there
+        (omega arith) (omega arith) (no_change o olds numbers x still) (here ∙ e) there
+
+pub listed_put : (o : Ownership) (olds numbers : List ℕ) (x number : ℕ) → AreRaised olds numbers number → number < slice_index numbers x → x < length o.members → length numbers ≡ length o.members
+    → put_change (changed_at o x (slice_index numbers x) number) (listed o olds numbers) ≡ listed o olds (slice_set numbers x number)
+listed_put o olds numbers x number r above h places = put_at o olds numbers x number (unraised olds numbers x number r above) h places
 
 -- equal lists have no changes
 pub listed_same : (o : Ownership) (numbers : List ℕ) → [] ≡ listed o numbers numbers

@@ -19,11 +19,11 @@ use Rattle.mutex_chain.proofs.RaiseLemmas.{below_cur_in, owner_more}
 use Rattle.mutex_chain.proofs.TouchLemmas.{touches_ceiling}
 
 -- a thread is at least as urgent as by itself
-own_more : (o : Ownership) (t : ℕ) → t < length o.members → cur_in o t ≤ member_urgency o t
+pub own_more : (o : Ownership) (t : ℕ) → t < length o.members → cur_in o t ≤ member_urgency o t
 own_more o t h = omega (arith, graph_urgency o t h, fold_le (urgency_of (graph_in o) t) (map (urgency_of (graph_in o)) (reach (graph_in o) t)))
 
 -- a thread that waits has a number of the table
-waiter_within : (o : Ownership) (x t : ℕ) → blocker_in o x ≡ Some t → x < length o.members
+pub waiter_within : (o : Ownership) (x t : ℕ) → blocker_in o x ≡ Some t → x < length o.members
 waiter_within o x t e = ⊎_elim (λ low. low) (λ high. absurd (none-some t (sym (ap (λ m. option_and_then (owner_in o) (awaited_by m)) (get_or_past o.members x None high)) ∙ e))) (cases_lt x (length o.members))
 
 trans : (a b c : ℕ) → a ≤ b → b ≤ c → a ≤ c

@@ -334,7 +334,7 @@ ceilings_owned m x c cs (k ∷ ks) p f = by_tests (k.mutex == m) refl (k.owner =
     by_tests false e false g f r = r f
 
 -- another ceiling, or none
-touches_ceiling_at : (m : ℕ) (c : Option ℕ) (o : Ownership) → AllPairs Apart o.taken → Touches (option_to_list (owner_in o m)) o (record o { ceilings = slice_set o.ceilings m c })
+pub touches_ceiling_at : (m : ℕ) (c : Option ℕ) (o : Ownership) → AllPairs Apart o.taken → Touches (option_to_list (owner_in o m)) o (record o { ceilings = slice_set o.ceilings m c })
 touches_ceiling_at m c o once = record {
   size = refl;
   blockers = λ x e. inl refl;
@@ -371,7 +371,7 @@ pub leaves_taken : (ts : List ℕ) (o : Ownership) → (leave_edits ts o).taken 
 leaves_taken [] o = refl
 leaves_taken (t ∷ ts) o = leaves_taken ts (leave_edit t o)
 
-touches_free : (m : ℕ) (o : Ownership) → AllPairs Apart o.taken → Touches (option_to_list (owner_in o m)) o (with_mutex_free m o)
+pub touches_free : (m : ℕ) (o : Ownership) → AllPairs Apart o.taken → Touches (option_to_list (owner_in o m)) o (with_mutex_free m o)
 touches_free m o once = by_row (taken_of o m) refl
   where
     by_row : (r : Option Taken) → taken_of o m ≡ r → Touches (option_to_list (option_map (λ (h : Taken). h.owner) r)) o (with_mutex_free m o)
@@ -407,7 +407,7 @@ found_of m (k ∷ ks) h at = by_test (k.mutex == m) refl at (found_of m ks h)
     by_test false e f r = r f
 
 -- a mutex that a thread owns has a row of that thread
-owned_row : (t m : ℕ) (ms : List ℕ) (hs : List Taken) → AllPairs Apart hs → map (λ h. h.mutex) (filter (λ h. h.owner == t) hs) ≡ m ∷ ms → (h : Taken) × (find (λ h. h.mutex == m) hs ≡ Some h) × (h.owner ≡ t)
+pub owned_row : (t m : ℕ) (ms : List ℕ) (hs : List Taken) → AllPairs Apart hs → map (λ h. h.mutex) (filter (λ h. h.owner == t) hs) ≡ m ∷ ms → (h : Taken) × (find (λ h. h.mutex == m) hs ≡ Some h) × (h.owner ≡ t)
 owned_row t m ms [] p e = absurd (no_cons e)
   where
     no_cons : {x : ℕ} {xs : List ℕ} → [] ≡ x ∷ xs → ⊥

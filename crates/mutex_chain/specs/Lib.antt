@@ -3,3 +3,4 @@ pub mod Walks
 pub mod Graph
 pub mod Equations
 pub mod Raising
+pub mod Renewing

@@ -1,15 +1,18 @@
-ghost use Rattle.std.specs.Prelude.{ℕ, ◌≡◌, ◌<◌, ◌≤◌, length, min, IfSome};
+ghost use Rattle.std.specs.Prelude.{ℕ, ◌≡◌, ◌⊎◌, ◌<◌, ◌≤◌, Some, length, min, slice_index, IfSome};
 ghost use Rattle.std.specs.List.{filter_map, range_with_len};
 ghost use Rattle.rt_plain.specs.kernel.Ownership.{Ownership, member_urgency, changes, first_in, waiters_in};
 ghost use Rattle.mutex_chain.specs.Graph.{Keeps, changed_at, listed_at};
 ghost use Rattle.mutex_chain.specs.Owners.{IsSound, blocker_in};
+ghost use Rattle.mutex_chain.specs.Raising.{listed};
+ghost use Rattle.mutex_chain.specs.Renewing.{AreAside, IsAhead};
 ghost use Rattle.mutex_chain.specs.Walks.{carried, urgencies_of, curs_of};
 
 use crate::changes::{Change, Changes};
 use crate::owners::Owners;
+use crate::renewing::renew_chain;
 use crate::waiter::Waiter;
-use rt_base::{ObjNo, Prio, ThreadNo};
-use std::mem::swap;
+use rt_base::{ObjNo, Prio, Steps, ThreadNo};
+use std::sync::ledger::Ledger;
 
 // Computes the current priorities of all threads anew. A thread that isn't there has 256.
 pub fn compute(owners: &Owners, numbers: &mut Vec<u16>)
@@ -53,47 +56,81 @@ fn carry(owners: &Owners, from: ThreadNo, numbers: &mut Vec<u16>)
     }
 }
 
-// Computes the current priorities anew, and lists those that are not what they were.
-pub fn renew(owners: &Owners, curs: &mut Vec<u16>, before: &mut Vec<u16>, out: &mut Changes)
-    requires curs { length curs.old.items ≡ length owners.now.members }
+// Computes the current priorities along the chain of a thread anew, where all others are right, and lists
+// those that are not what they were.
+pub fn renew<L: Ledger>(
+    owners: &Owners,
+    curs: &mut Vec<u16>,
+    before: &mut Vec<u16>,
+    from: Option<ThreadNo>,
+    out: &mut Changes,
+    steps: &mut Steps<L>,
+)
+    requires aside { AreAside owners.now curs.old.items from }
+    requires sound { IsSound owners.now }
     requires before { length before.old.items ≡ length owners.now.members }
     requires room { length owners.now.members ≤ out.old.threads }
-    ensures sound { IsSound owners.now }
     ensures curs { curs.new.items ≡ curs_of owners.now }
     ensures places { length curs.new.items ≡ length owners.now.members }
     ensures before { length before.new.items ≡ length owners.now.members }
     ensures changes { (o : Ownership) → IsSound o → curs.old.items ≡ curs_of o → Keeps o owners.now →
         out.new ≡ record out.old { changes = changes o owners.now } }
 {
-    swap(curs, before);
-    settle(owners, curs, before, out);
+    before.copy_from_slice(curs);
+    let count = renew_chain(owners, curs, &from, out, steps);
+    list_along(owners, before, curs, from, count, out);
 }
 
-// Computes the current priorities anew, and lists those that are not what they were before.
-pub fn settle(owners: &Owners, curs: &mut Vec<u16>, before: &[u16], out: &mut Changes)
-    requires curs { length curs.old.items ≡ length owners.now.members }
-    requires before { length before.now ≡ length owners.now.members }
+// Lists the changes of so many threads along a chain, where nobody else has one. The numbers before become
+// those after, so that none is listed twice.
+fn list_along(
+    owners: &Owners,
+    before: &mut Vec<u16>,
+    after: &[u16],
+    from: Option<ThreadNo>,
+    count: u16,
+    out: &mut Changes,
+)
+    requires before { length before.old.items ≡ length owners.now.members }
+    requires after { length after.now ≡ length owners.now.members }
+    requires within { (t : ℕ) → from ≡ Some t → t < length owners.now.members }
+    requires sound { IsSound owners.now }
+    requires along { (t : ℕ) → t < length owners.now.members →
+        (slice_index before.old.items t ≡ slice_index after.now t) ⊎ IsAhead owners.now count from t }
     requires room { length owners.now.members ≤ out.old.threads }
-    ensures sound { IsSound owners.now }
-    ensures curs { curs.new.items ≡ curs_of owners.now }
-    ensures places { length curs.new.items ≡ length owners.now.members }
-    ensures changes { (o : Ownership) → IsSound o → before.now ≡ curs_of o → Keeps o owners.now →
-        out.new ≡ record out.old { changes = changes o owners.now } }
+    ensures places { length before.new.items ≡ length owners.now.members }
+    ensures listed { out.new ≡ record out.old { changes = listed owners.now before.old.items after.now } }
 {
-    compute(owners, curs);
-    list_changes(owners, before, curs, out);
+    out.clear();
+    let mut left = count;
+    let mut at = from;
+    while left > 0 {
+        let Some(thread) = at else {
+            break;
+        };
+        left -= 1;
+        let place = thread.0 as usize;
+        let old = before[place];
+        let new = after[place];
+        before[place] = new;
+        if let Some(change) = change_of(owners, thread, old, new) {
+            out.put(change);
+        }
+        at = owners.blocker(thread);
+    }
 }
 
 // Lists the threads that are there and whose numbers differ.
-fn list_changes(owners: &Owners, olds: &[u16], news: &[u16], out: &mut Changes)
+pub fn list_changes(owners: &Owners, olds: &[u16], news: &[u16], out: &mut Changes)
     requires olds { length olds.now ≡ length owners.now.members }
     requires news { length news.now ≡ length owners.now.members }
     requires room { length owners.now.members ≤ out.old.threads }
-    ensures sound { IsSound owners.now }
-    ensures changes { out.new ≡ record out.old {
+    ensures listed { out.new ≡ record out.old {
       changes =
           filter_map (listed_at owners.now olds.now news.now) (range_with_len 0 (length owners.now.members));
     } }
+    ensures changes { (o : Ownership) → IsSound o → IsSound owners.now → olds.now ≡ curs_of o → news.now ≡ curs_of owners.now →
+        Keeps o owners.now → out.new ≡ record out.old { changes = changes o owners.now } }
 {
     out.clear();
     for t in 0..owners.threads() {

@@ -1,16 +1,20 @@
-ghost use Rattle.std.specs.Prelude.{ℕ, ◌≡◌, ◌<◌, ◌≤◌, false, length, map, All};
+ghost use Rattle.std.specs.Prelude.{ℕ, ◌≡◌, ◌<◌, ◌≤◌, List, Some, false, length, map, All, IfSome};
 ghost use Rattle.std.specs.List.{filter_map};
-ghost use Rattle.rt_plain.specs.kernel.Ownership.{leave_edits, owned_in, pass_edits, passes_from, waiters_in};
+ghost use Rattle.rt_plain.specs.kernel.Ownership.{first_in, leave_edit, leave_edits, owned_in, owner_in, pass_edit_to, pass_edits, passes_from, waiters_in};
 ghost use Rattle.mutex_chain.specs.Graph.{pair_of, place_of, row_in};
-ghost use Rattle.mutex_chain.specs.Owners.{has_thread};
+ghost use Rattle.mutex_chain.specs.Owners.{IsSound, has_thread};
+ghost use Rattle.mutex_chain.specs.Renewing.{AreAside};
 ghost use Rattle.mutex_chain.specs.Walks.{curs_of};
 
-use crate::curs::{compute, first_waiter};
+use crate::changes::Changes;
+use crate::curs::first_waiter;
 use crate::owners::Owners;
 use crate::passes::Passes;
+use crate::renewing::renew_chain;
 use crate::waiter::Waiter;
 use crate::woken::Woken;
-use rt_base::{ObjNo, ThreadNo};
+use rt_base::{ObjNo, Steps, ThreadNo};
+use std::sync::ledger::Ledger;
 
 // Lists the waiters of a mutex in their order, by these current priorities. Later threads are put in
 // first, since of equal ones the lower number stands first.
@@ -65,15 +69,78 @@ pub fn leave_all(owners: &mut Owners, threads: &[ThreadNo])
     }
 }
 
-// Gives back the mutexes of a thread that is gone, the last got first, each to who is the first waiter then.
-pub fn give_back(owners: &mut Owners, curs: &mut Vec<u16>, thread: ThreadNo, passes: &mut Passes)
-    requires gone { has_thread owners.old thread ≡ false }
-    requires curs { length curs.old.items ≡ length owners.old.members }
-    requires room { length owners.old.members ≤ passes.old.threads }
-    ensures owners { owners.new ≡ pass_edits (owned_in owners.old thread) owners.old }
+// A thread waits no more. The answer is whom it waited for: the numbers are right but along the chain of that one.
+pub fn end_wait(owners: &mut Owners, thread: ThreadNo) -> Option<ThreadNo>
+    requires { thread < length owners.old.members }
+    ensures owners { owners.new ≡ leave_edit thread owners.old }
+    ensures sound { IsSound owners.new }
     ensures places { length owners.new.members ≡ length owners.old.members }
     ensures mutexes { length owners.new.ceilings ≡ length owners.old.ceilings }
-    ensures curs { length curs.new.items ≡ length owners.new.members }
+    ensures aside { (numbers : List ℕ) → numbers ≡ curs_of owners.old → AreAside owners.new numbers result }
+{
+    owners.know_sound();
+    let owner = owners.blocker(thread);
+    owners.set_wait(thread, None);
+    owners.know_sound();
+    owner
+}
+
+// A mutex passes from its owner to this waiter, or to nobody. The chain of the owner is computed anew, and then
+// the number of the waiter.
+pub fn hand_on<L: Ledger>(
+    owners: &mut Owners,
+    curs: &mut Vec<u16>,
+    thread: ThreadNo,
+    mutex: ObjNo,
+    first: &Option<ThreadNo>,
+    out: &mut Changes,
+    steps: &mut Steps<L>,
+)
+    requires curs { curs.old.items ≡ curs_of owners.old }
+    requires mutex { mutex < length owners.old.ceilings }
+    requires owner { owner_in owners.old mutex ≡ Some thread }
+    requires first { first.now ≡ first_in owners.old mutex }
+    requires within { IfSome first.now (λ t. t < length owners.old.members) }
+    requires room { length owners.old.members ≤ out.old.threads }
+    ensures owners { owners.new ≡ pass_edit_to mutex first.now owners.old }
+    ensures sound { IsSound owners.new }
+    ensures places { length owners.new.members ≡ length owners.old.members }
+    ensures mutexes { length owners.new.ceilings ≡ length owners.old.ceilings }
+    ensures curs { curs.new.items ≡ curs_of owners.new }
+    ensures numbers { length curs.new.items ≡ length owners.new.members }
+    ensures room { out.new.threads ≡ out.old.threads }
+{
+    owners.know_sound();
+    owners.free(mutex);
+    owners.know_sound();
+    renew_chain(owners, curs, &Some(thread), out, steps);
+    if let Some(waiter) = first {
+        owners.pass(mutex, Some(*waiter));
+        owners.know_sound();
+        renew_chain(owners, curs, &Some(*waiter), out, steps);
+    }
+}
+
+// Gives back the mutexes of a thread that is gone, the last got first, each to who is the first waiter then.
+pub fn give_back<L: Ledger>(
+    owners: &mut Owners,
+    curs: &mut Vec<u16>,
+    thread: ThreadNo,
+    passes: &mut Passes,
+    out: &mut Changes,
+    steps: &mut Steps<L>,
+)
+    requires gone { has_thread owners.old thread ≡ false }
+    requires curs { curs.old.items ≡ curs_of owners.old }
+    requires sound { IsSound owners.old }
+    requires room { length owners.old.members ≤ passes.old.threads }
+    requires changes { length owners.old.members ≤ out.old.threads }
+    ensures owners { owners.new ≡ pass_edits (owned_in owners.old thread) owners.old }
+    ensures sound { IsSound owners.new }
+    ensures places { length owners.new.members ≡ length owners.old.members }
+    ensures mutexes { length owners.new.ceilings ≡ length owners.old.ceilings }
+    ensures curs { curs.new.items ≡ curs_of owners.new }
+    ensures room { out.new.threads ≡ out.old.threads }
     ensures passes { passes.new ≡ record passes.old {
       passes =
           map pair_of (filter_map (λ p. p) (passes_from (owned_in owners.old thread) owners.old));
@@ -81,9 +148,8 @@ pub fn give_back(owners: &mut Owners, curs: &mut Vec<u16>, thread: ThreadNo, pas
 {
     passes.clear();
     while let Some(mutex) = owners.first_owned(thread) {
-        compute(owners, curs);
         let first = first_waiter(owners, curs, mutex);
         passes.push(mutex, &first);
-        owners.pass(mutex, first);
+        hand_on(owners, curs, thread, mutex, &first, out, steps);
     }
 }

@@ -1,24 +1,24 @@
 ghost use Rattle.std.specs.Prelude.{◌≡◌, ◌≢◌, ◌+◌, ◌*◌, ◌<◌, ◌≤◌, [], ◌∷◌, None, Some, false, length, map, replicate, slice_set, IfOk, IfSome, IsTrue};
 ghost use Rattle.std.specs.Option.{option_map};
 ghost use Rattle.rt_plain.specs.kernel.Ownership.{awaited_in, base_edit, base_of, ceiling_edit, changes, cur_in, first_in, kill_mutex_edit, kill_thread_edit, leave_edit, member_at, owner_in, passes_of, release_edit, take_edit, taken_of, wait_edit, waiters_in, with_member};
-ghost use Rattle.rt_plain.specs.kernel.Weight.{ceiling_touches, edit_size};
-ghost use Rattle.mutex_chain.specs.Graph.{IsOther, took_of, released_of, hold_of, pair_of};
+ghost use Rattle.rt_plain.specs.kernel.Weight.{ceiling_touches, edit_size, release_touches};
+ghost use Rattle.mutex_chain.specs.Graph.{IsOther, is_last, took_of, released_of, hold_of, pair_of};
 ghost use Rattle.mutex_chain.specs.Equations.{IsOnce};
 ghost use Rattle.mutex_chain.specs.Owners.{AreOwned, has_thread, has_mutex, ceiling_at};
 
 use crate::answers::{Released, Took};
 use crate::changes::Changes;
-use crate::curs::{compute, count_waiters, first_waiter, number, renew, settle};
-use crate::ends::{give_back, leave_all, list_waiters};
+use crate::curs::{compute, count_waiters, first_waiter, list_changes, number, renew};
+use crate::ends::{end_wait, give_back, hand_on, leave_all, list_waiters};
 use crate::owners::Owners;
 use crate::passes::Passes;
 use crate::raising::strengthen;
+use crate::renewing::renew_chain;
 use crate::rows::{MemberRow, WaitRow};
 use crate::woken::Woken;
 use rt_base::{ObjNo, Prio, Steps, ThreadNo};
 use std::alloc::{AllocError, Global};
 use std::marker::Model;
-use std::mem::swap;
 use std::sync::ledger::Ledger;
 
 /// The threads and the mutexes: who owns which mutex and how often it was taken, who waits on which,
@@ -32,9 +32,10 @@ use std::sync::ledger::Ledger;
 /// after it and whose current priority it changed, in thread order, with both numbers; what the list
 /// held before is dropped. It has to have been made for at least as many threads as the graph.
 ///
-/// Only `new` takes memory. Each edit raises `steps`: `wait`, and a base or a ceiling that is at least as
-/// urgent as the one before, by at most 8 times the size of the edit (the weights of the chains of the
-/// threads that it touches, before and after it, and 1). Of the other edits nothing is said yet.
+/// Only `new` takes memory. Each edit raises `steps`: `take`, `wait`, a base or a ceiling that is at
+/// least as urgent as the one before, and a release that isn't the last one, by at most 8 times the size
+/// of the edit (the weights of the chains of the threads that it touches, before and after it, and 1). Of
+/// the other edits nothing is said yet.
 #[derive(Drop)]
 pub struct MutexGraph {
     owners: Owners,
@@ -111,11 +112,18 @@ impl MutexGraph {
         let old = self.owners.base_of(thread);
         let number = base.0 as u16;
         self.owners.set_base(thread, base);
+        self.owners.know_sound();
         if number > old {
-            renew(&self.owners, &mut self.curs, &mut self.before, out);
+            renew(
+                &self.owners,
+                &mut self.curs,
+                &mut self.before,
+                Some(thread),
+                out,
+                steps,
+            );
             return;
         }
-        self.owners.know_sound();
         strengthen(
             &self.owners,
             &mut self.curs,
@@ -147,13 +155,20 @@ impl MutexGraph {
         steps.tick();
         let old = self.ceiling(mutex);
         self.owners.set_ceiling(mutex, Some(ceiling));
-        if ceiling.0 > old.0 {
-            renew(&self.owners, &mut self.curs, &mut self.before, out);
-            return old;
-        }
         self.owners.know_sound();
         steps.tick();
         let owner = self.owners.holder(mutex);
+        if ceiling.0 > old.0 {
+            renew(
+                &self.owners,
+                &mut self.curs,
+                &mut self.before,
+                owner,
+                out,
+                steps,
+            );
+            return old;
+        }
         strengthen(
             &self.owners,
             &mut self.curs,
@@ -183,6 +198,7 @@ impl MutexGraph {
         ensures threads { length self.new.members ≡ length self.old.members }
         ensures mutexes { length self.new.ceilings ≡ length self.old.ceilings }
         ensures changes { out.new ≡ record out.old { changes = changes self.old self.new } }
+        ensures cost { steps.new ≤ steps.old + 8 * edit_size self.old self.new (thread ∷ []) }
     {
         steps.tick();
         let number = self.ceiling(mutex).0 as u16;
@@ -234,8 +250,15 @@ impl MutexGraph {
         ensures changes { out.new ≡ record out.old { changes = changes self.old self.new } }
     {
         steps.tick();
-        self.owners.set_wait(thread, None);
-        renew(&self.owners, &mut self.curs, &mut self.before, out);
+        let owner = end_wait(&mut self.owners, thread);
+        renew(
+            &self.owners,
+            &mut self.curs,
+            &mut self.before,
+            owner,
+            out,
+            steps,
+        );
     }
 
     /// A thread releases a mutex: its owner holds it once less, and at the last time it passes to the
@@ -255,18 +278,32 @@ impl MutexGraph {
         ensures threads { length self.new.members ≡ length self.old.members }
         ensures mutexes { length self.new.ceilings ≡ length self.old.ceilings }
         ensures changes { out.new ≡ record out.old { changes = changes self.old self.new } }
+        ensures cost { is_last thread (taken_of self.old mutex) ≡ false →
+            steps.new ≤ steps.old + 8 * edit_size self.old self.new (release_touches self.old thread mutex) }
     {
         steps.tick();
         if !self.owners.is_last_hold(thread, mutex) {
-            let released = self.owners.release(thread, mutex, None);
+            let released = self.owners.release(thread, mutex);
             self.owners.know_sound();
             strengthen(&self.owners, &mut self.curs, None, 0, out, steps);
             return released;
         }
+        self.before.copy_from_slice(&self.curs);
         let first = first_waiter(&self.owners, &self.curs, mutex);
-        let released = self.owners.release(thread, mutex, first);
-        renew(&self.owners, &mut self.curs, &mut self.before, out);
-        released
+        hand_on(
+            &mut self.owners,
+            &mut self.curs,
+            thread,
+            mutex,
+            &first,
+            out,
+            steps,
+        );
+        list_changes(&self.owners, &self.before, &self.curs, out);
+        match first {
+            None => Released::Free,
+            Some(waiter) => Released::Passed(waiter),
+        }
     }
 
     /// A mutex ends. All its waiters wait no more: they are woken in the order in which they stood.
@@ -288,10 +325,19 @@ impl MutexGraph {
     {
         steps.tick();
         list_waiters(&self.owners, &self.curs, mutex, woken);
+        let owner = self.owners.holder(mutex);
         self.owners.free(mutex);
         leave_all(&mut self.owners, woken.as_slice());
         self.owners.set_ceiling(mutex, None);
-        renew(&self.owners, &mut self.curs, &mut self.before, out);
+        self.owners.know_sound();
+        renew(
+            &self.owners,
+            &mut self.curs,
+            &mut self.before,
+            owner,
+            out,
+            steps,
+        );
     }
 
     /// A thread ends: it leaves its wait, and then gives back its mutexes, the last got first, each to
@@ -313,10 +359,14 @@ impl MutexGraph {
         ensures changes { out.new ≡ record out.old { changes = changes self.old self.new } }
     {
         steps.tick();
-        swap(&mut self.curs, &mut self.before);
+        self.before.copy_from_slice(&self.curs);
+        let owner = end_wait(&mut self.owners, thread);
+        renew_chain(&self.owners, &mut self.curs, &owner, out, steps);
         self.owners.set_member(thread, None);
-        give_back(&mut self.owners, &mut self.curs, thread, passes);
-        settle(&self.owners, &mut self.curs, &self.before, out);
+        self.owners.know_sound();
+        renew_chain(&self.owners, &mut self.curs, &Some(thread), out, steps);
+        give_back(&mut self.owners, &mut self.curs, thread, passes, out, steps);
+        list_changes(&self.owners, &self.before, &self.curs, out);
     }
 
     /// Whether a thread is there.
@@ -340,7 +390,15 @@ impl MutexGraph {
         ensures once { IsOnce self.now }
         ensures owned { AreOwned self.now }
     {
-        let _ = &self.curs;
+        // Each field with its type: a further one doesn't compile before it is named here too.
+        let MutexGraph {
+            owners,
+            curs,
+            before,
+        } = self;
+        let _: &Owners = owners;
+        let _: &Vec<u16> = curs;
+        let _: &Vec<u16> = before;
     }
 
     /// The current priority of a thread.

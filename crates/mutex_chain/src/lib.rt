@@ -10,6 +10,7 @@ pub mod laws;
 mod owners;
 mod passes;
 mod raising;
+mod renewing;
 mod rows;
 mod waiter;
 mod woken;

@@ -1,7 +1,8 @@
-ghost use Rattle.std.specs.Prelude.{ℕ, ◌≡◌, ◌+◌, ◌<◌, ◌≤◌, [], None, Some, length, map, not, ◌==◌, filter, if◌then◌else◌, replicate, slice_set, vec_capacity, IfOk, IfSome, IsTrue};
+ghost use Rattle.std.specs.Prelude.{ℕ, ◌≡◌, ◌+◌, ◌<◌, ◌≤◌, [], ◌∷◌, None, Some, false, length, map, not, ◌==◌, filter, if◌then◌else◌, replicate, slice_set, vec_capacity, IfOk, IfSome};
 ghost use Rattle.std.specs.List.{find};
 ghost use Rattle.std.specs.Option.{is_some, option_map};
 ghost use Rattle.rt_plain.specs.kernel.Ownership.{base_of, member_at, taken_of, member_urgency, owned_in, owner_in, with_member, base_edit, member_edit, with_wait, with_mutex_free, with_mutex_got, with_taken_times, wait_of, take_edit, pass_edit_to, first_in, release_edit};
+ghost use Rattle.rt_plain.specs.kernel.Priority.{is_one_of};
 ghost use Rattle.rt_plain.specs.kernel.Waiting.{head_of};
 ghost use Rattle.mutex_chain.specs.Graph.{is_last, took_of, released_of, row_in, waiter_with};
 ghost use Rattle.mutex_chain.specs.Owners.{IsSound, has_thread, has_mutex, ceiling_at, blocker_in, with_hold};
@@ -123,7 +124,18 @@ impl Owners {
         self.holder(wait.mutex)
     }
 
-    // The same, with the reads of the two rows counted.
+    // Whether a thread waits on a mutex of another one.
+    pub fn waits_for(&self, thread: ThreadNo, owner: ThreadNo) -> bool
+        requires { thread < length self.now.members }
+        ensures { result ≡ is_one_of (owner ∷ []) (blocker_in self.now thread) }
+    {
+        match self.blocker(thread) {
+            None => false,
+            Some(blocker) => blocker.0 == owner.0,
+        }
+    }
+
+    // The owner of the mutex that a thread waits on, with the reads of the two rows counted.
     pub fn counted_blocker<L: Ledger>(
         &self,
         thread: ThreadNo,
@@ -312,11 +324,9 @@ impl Owners {
         }
     }
 
-    // A thread releases a mutex. Where it does so for the last time, this is the first waiter.
-    pub fn release(&mut self, thread: ThreadNo, mutex: ObjNo, first: Option<ThreadNo>) -> Released
-        requires mutex { mutex < length self.old.ceilings }
-        requires first { IsTrue (is_last thread (taken_of self.old mutex)) → first ≡ first_in self.old mutex }
-        requires within { IfSome first (λ t. t < length self.old.members) }
+    // A thread releases a mutex that it doesn't hold for the last time.
+    pub fn release(&mut self, thread: ThreadNo, mutex: ObjNo) -> Released
+        requires again { is_last thread (taken_of self.old mutex) ≡ false }
         ensures answer { result ≡ released_of thread (taken_of self.old mutex) (first_in self.old mutex) }
         ensures edit { self.new ≡ release_edit thread mutex self.old }
         ensures threads { length self.new.members ≡ length self.old.members }
@@ -328,16 +338,9 @@ impl Owners {
         if row.owner.0 != thread.0 {
             return Released::NotOwner(Some(row.owner));
         }
-        if row.hold > 1 {
-            self.set_hold(mutex, row.hold - 1);
-            return Released::Held(row.hold - 1);
-        }
-        let answer = match &first {
-            None => Released::Free,
-            Some(thread) => Released::Passed(*thread),
-        };
-        self.pass(mutex, first);
-        answer
+        let left = row.hold.saturating_sub(1);
+        self.set_hold(mutex, left);
+        Released::Held(left)
     }
 
     // Its owner has taken the mutex so many times.

@@ -30,6 +30,7 @@ pub fn strengthen<L: Ledger>(
     ensures places { length curs.new.items ≡ length owners.now.members }
     ensures changes { (o : Ownership) → IsSound o → curs.old.items ≡ curs_of o → Keeps o owners.now →
         out.new ≡ record out.old { changes = changes o owners.now } }
+    ensures room { out.new.threads ≡ out.old.threads }
     ensures nobody { from ≡ None → steps.new ≡ steps.old }
     ensures cost { (touched : List ℕ) (u : ℕ) → is_among touched u ≡ true → u < length owners.now.members →
         LeadsTo owners.now u from → steps.new ≤ steps.old + (4 * moment_weight owners.now touched + 1) }

@@ -1,6 +1,7 @@
-use Rattle.std.proofs.Common.{◌≡◌, ◌∙◌, ap}
-use Rattle.rt_plain.specs.kernel.Ownership.{Ownership, waiters_in}
+use Rattle.std.proofs.Common.{◌≡◌, ◌∙◌, ap, refl}
+use Rattle.rt_plain.specs.kernel.Ownership.{Ownership, kill_mutex_edit, waiters_in}
 use Rattle.mutex_chain.specs.Graph.{Keeps, WokenList}
+use Rattle.mutex_chain.proofs.EditLemmas.{aside_by, differs_mutex_end}
 use Rattle.mutex_chain.proofs.KeepLemmas.{keeps_leaves, keeps_same, keeps_trans}
 use Rattle.mutex_chain.proofs.OwnedLemmas.{owned_mutex_end}
 use Rattle.mutex_chain.proofs.graph.MutexGraph.kill_mutex.Goals as goal
@@ -21,9 +22,17 @@ invariant_of-self g c =
     let o = c.self.inside.owners in
     let line : c.as_slice.result.now ≡ waiters_in c.self.inside.owners c.args.mutex = c.as_slice.ensures ∙ ap (λ (w : WokenList). w.woken) c.list_waiters.ensures.waiters in
     record {
-      sound = c.renew.ensures.sound;
+      sound = c.know_sound.ensures;
       owned = rw (c.set_ceiling.ensures, c.leave_all.ensures.edits, line, c.free.ensures) (owned_mutex_end o c.args.mutex c.self.invariant.owned);
       curs = c.renew.ensures.curs;
       places = c.renew.ensures.places;
       before = c.renew.ensures.before;
     }
+
+pub renew-requires-clause-aside : goal.renew-requires-clause-aside
+renew-requires-clause-aside g c =
+    let o = c.self.inside.owners in
+    let line : c.as_slice.result.now ≡ waiters_in c.self.inside.owners c.args.mutex = c.as_slice.ensures ∙ ap (λ (w : WokenList). w.woken) c.list_waiters.ensures.waiters in
+    let edit : c.set_ceiling.new.self ≡ kill_mutex_edit c.args.mutex c.self.inside.owners = rw (c.set_ceiling.ensures, c.leave_all.ensures.edits, line, c.free.ensures) refl in
+    rw c.holder-owner.ensures.owner (aside_by o c.set_ceiling.new.self (kill_mutex_edit c.args.mutex o) c.self.inside.curs.items _ c.self.invariant.sound c.know_sound.ensures c.self.invariant.curs edit
+    (differs_mutex_end o c.args.mutex c.self.invariant.sound))

@@ -1,9 +1,10 @@
 use Rattle.std.proofs.Common.{arith, ◌≡◌, ◌≤◌, ◌∙◌, sym, ap, Some}
 use Rattle.rt_plain.specs.kernel.Weight.{ceiling_touches}
 use Rattle.std.specs.Option.{option_to_list}
-use Rattle.rt_plain.specs.kernel.Ownership.{Ownership, owner_in}
+use Rattle.rt_plain.specs.kernel.Ownership.{Ownership, ceiling_edit, owner_in}
 use Rattle.mutex_chain.specs.Owners.{ceiling_at}
 use Rattle.mutex_chain.proofs.ChainLemmas.{from_cost}
+use Rattle.mutex_chain.proofs.EditLemmas.{aside_by, differs_ceiling}
 use Rattle.mutex_chain.proofs.StrongLemmas.{ceiling_raises}
 use Rattle.mutex_chain.proofs.graph.MutexGraph.set_ceiling.Goals as goal
 
@@ -20,3 +21,10 @@ returns-clause-cost g c = λ less.
     sym (ap option_to_list (c.holder-owner.ensures.owner ∙ ap (λ (q : Ownership). owner_in q c.args.mutex) c.set_ceiling.ensures ∙ ap (λ (q : Ownership). owner_in q c.args.mutex) c.self.view_is)) in
     let cost = from_cost c.args.self.now c.set_ceiling.new.self c.holder-owner.result c.tick-2.new.self c.strengthen.new.steps (λ t e. rw e at c.holder-owner.ensures.within) c.strengthen.ensures.nobody c.strengthen.ensures.cost in
     rw touches (omega (arith, cost, c.tick.ensures, c.tick-2.ensures))
+
+pub renew-requires-clause-aside : goal.renew-requires-clause-aside
+renew-requires-clause-aside g c =
+    let o = c.self.inside.owners in
+    let owner : c.holder-owner.result ≡ owner_in c.self.inside.owners c.args.mutex = c.holder-owner.ensures.owner ∙ ap (λ (q : Ownership). owner_in q c.args.mutex) c.set_ceiling.ensures in
+    rw owner (aside_by o c.set_ceiling.new.self (ceiling_edit c.args.mutex c.args.ceiling o) c.self.inside.curs.items _ c.self.invariant.sound c.know_sound.ensures c.self.invariant.curs c.set_ceiling.ensures
+    (differs_ceiling o c.args.mutex c.args.ceiling c.self.invariant.sound))

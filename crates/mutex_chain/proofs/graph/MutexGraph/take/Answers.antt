@@ -1,8 +1,10 @@
-use Rattle.std.proofs.Common.{◌≡◌, ◌∙◌, sym, ap, true, Some, None, cond, not}
+use Rattle.std.proofs.Common.{arith, ◌≡◌, ◌<◌, ◌∙◌, sym, ap, true, Some, None, cond, not, length, [], ◌∷◌}
 use Rattle.std.specs.Option.{is_some}
 use Rattle.rt_plain.specs.kernel.Ownership.{owner_in}
 use Rattle.mutex_chain.specs.Owners.{has_thread, ceiling_at}
 use Rattle.mutex_chain.proofs.ChangeLemmas.{thread_within}
+use Rattle.mutex_chain.proofs.ChainLemmas.{leads_then}
+use Rattle.mutex_chain.proofs.LawLemmas.{itself}
 use Rattle.mutex_chain.proofs.OwnedLemmas.{owned_take}
 use Rattle.mutex_chain.proofs.TakeLemmas.{got_by, take_raises}
 use Rattle.mutex_chain.proofs.graph.MutexGraph.take.Goals as goal
@@ -26,3 +28,10 @@ invariant_of-self g c = record {
   places = c.strengthen.ensures.places;
   before = c.self.invariant.before ∙ sym c.take-took.ensures.threads;
 }
+
+pub returns-clause-cost : goal.returns-clause-cost
+returns-clause-cost g c =
+    let there : has_thread c.self.inside.owners c.args.thread ≡ true = rw c.self.view_is c.requires.thread in
+    let inside : c.args.thread < length c.take-took.new.self.members = omega (arith, thread_within c.self.inside.owners c.args.thread there, c.take-took.ensures.threads) in
+    let cost = c.strengthen.ensures.cost (c.args.thread ∷ []) c.args.thread (itself c.args.thread) inside (leads_then c.take-took.new.self c.args.thread c.then_some-from.result c.is_none-is_free.result inside c.then_some-from.ensures) in
+    omega (arith, cost, c.tick.ensures)

@@ -1,0 +1,9 @@
+use Rattle.std.specs.List.{sum_by}
+use Rattle.mutex_chain.specs.Renewing.{IsMarking, fresh}
+use Rattle.mutex_chain.proofs.renewing.mark_chain.Given as goal
+
+abbrev pub invariant-loop-at : goal.invariant-loop-at
+invariant-loop-at l = IsMarking l.owners l.initial.numbers.items l.numbers.items l.fn.from l.count l.at
+
+abbrev pub decreases-loop-at : goal.decreases-loop-at
+decreases-loop-at l = sum_by fresh l.numbers.items
