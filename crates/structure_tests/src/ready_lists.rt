@@ -39,7 +39,7 @@ fn add(
     rt: &impl Abort,
     ready: &mut ReadyList,
     levels: u16,
-    (thread, prio, core): (u16, u8, Option<u8>),
+    row: (u16, u8, Option<u8>),
     at_head: bool,
 )
     requires threads { ready.old.threads ≡ 16 }
@@ -49,6 +49,7 @@ fn add(
     ensures cores { ready.new.cores ≡ 2 }
     ensures levels { ready.new.levels ≡ levels }
 {
+    let (thread, prio, core) = row;
     assert!(rt; thread < 16 && (prio as u16) < levels);
     assert!(rt; !ready.holds(ThreadNo(thread)));
     let core = core_below_two(rt, core);
