@@ -6,4 +6,6 @@ mod queues;
 mod ready;
 mod words;
 
+pub use queues::Queues;
 pub use ready::ReadySet;
+pub use words::Words;

@@ -16,6 +16,8 @@ mod queues;
 #[cfg(test)]
 mod ready;
 #[cfg(test)]
+mod ready_lists;
+#[cfg(test)]
 mod wait_lists;
 #[cfg(test)]
 mod works;
