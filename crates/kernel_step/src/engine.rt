@@ -68,7 +68,7 @@ fn go_on<L: Ledger>(
     ensures awake { is_sleep out.new.items ≡ false }
     ensures out_room { out.new.room ≡ out.old.room }
 {
-    kernel.facts();
+    kernel.know_kernel();
     match kernel.next_statement(t) {
         Stmt::Do(call) => {
             kernel.call(By::Thread(t, core), &call, out, steps);
@@ -81,7 +81,7 @@ fn go_on<L: Ledger>(
 fn at_rest(kernel: &Kernel) -> Did
     ensures { result ≡ (if is_all_idle kernel.now.state && is_empty kernel.now.state.armed then Halted Quiet else Same) }
 {
-    if kernel.all_idle() && kernel.is_quiet() {
+    if kernel.all_idle() && kernel.nothing_armed() {
         Did::Halted(Halt::Quiet)
     } else {
         Did::Same
@@ -99,7 +99,7 @@ fn core_step<L: Ledger>(kernel: &mut Kernel, out: &mut Lines, steps: &mut Steps<
     ensures awake { is_sleep out.new.items ≡ false }
     ensures out_room { out.new.room ≡ out.old.room }
 {
-    kernel.facts();
+    kernel.know_kernel();
     let core = CoreNo(0);
     if kernel.switch(core, out, steps) {
         return Did::Entry;
@@ -133,7 +133,7 @@ impl Engine {
         ensures state { IfOk result (λ k. state_of k ≡ open_state board) }
     {
         let kernel = Kernel::open(alloc, board)?;
-        kernel.facts();
+        kernel.know_kernel();
         Ok(Engine { kernel, halt: None })
     }
 
@@ -149,9 +149,9 @@ impl Engine {
         ensures awake { is_sleep out.new.items ≡ false }
         ensures out_room { out.new.room ≡ out.old.room }
     {
-        self.kernel.facts();
+        self.kernel.know_kernel();
         let did = core_step(&mut self.kernel, out, steps);
-        self.kernel.facts();
+        self.kernel.know_kernel();
         did
     }
 
@@ -167,11 +167,11 @@ impl Engine {
         ensures awake { is_sleep out.new.items ≡ false }
         ensures out_room { out.new.room ≡ out.old.room }
     {
-        self.kernel.facts();
+        self.kernel.know_kernel();
         self.kernel.begin_tick();
-        self.kernel.facts();
+        self.kernel.know_kernel();
         fire_due(&mut self.kernel, out, steps);
-        self.kernel.facts();
+        self.kernel.know_kernel();
         self.halt = halt_at_end(&self.kernel);
     }
 
@@ -242,7 +242,7 @@ impl Engine {
         ensures rounds { result ≡ round_count (state_of self.now).run_mode }
         ensures few { result ≤ 8 }
     {
-        self.kernel.facts();
+        self.kernel.know_kernel();
         4
     }
 
@@ -254,6 +254,6 @@ impl Engine {
         ensures sized { IsSized self.now.kernel.board }
         ensures nest { (state_of self.now).nest ≡ None }
     {
-        self.kernel.facts();
+        self.kernel.know_kernel();
     }
 }

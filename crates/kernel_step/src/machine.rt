@@ -17,7 +17,7 @@ use crate::engine::Engine;
 use crate::{Did, is_built};
 use journal::Journal;
 use rt_base::{Event, Halt, Steps};
-use rt_kernel::built_facts;
+use rt_kernel::know_built;
 use rt_plain::laws::{lines_fit_the_room, numbers_stay_small, reached_states_are_sound};
 use rt_plain::{Board, Lines};
 use std::alloc::{AllocError, Global};
@@ -75,7 +75,7 @@ fn facts(board: &Board)
     requires { is_built board.now ≡ true }
     ensures { IsBuilt board.now }
 {
-    built_facts(board);
+    know_built(board);
 }
 
 // Room for the lines of any one event.

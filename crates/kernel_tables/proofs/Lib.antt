@@ -7,10 +7,10 @@ pub mod ListLemmas
 pub mod MadeLemmas
 pub mod ObjectRowLemmas
 pub mod OpenLemmas
-pub mod RowLemmas
 pub mod SemLemmas
 pub mod ShownLemmas
 pub mod TableLemmas
+pub mod ThreadLemmas
 pub mod TiedLemmas
 pub mod WaitListLemmas
 pub mod WokenLemmas

@@ -5,7 +5,7 @@ use Rattle.std.proofs.lemmas.List.{map_more, map-append}
 use Rattle.rt_plain.specs.declared.board.ThreadDef.{ThreadDef}
 use Rattle.rt_plain.specs.kernel.State.{Thread}
 use Rattle.rt_plain.specs.kernel.Opening.{new_script_thread}
-use Rattle.kernel_tables.specs.declared.rows.Row.{Row}
+use Rattle.kernel_tables.specs.declared.threads.Thread.{Thread as ThreadRow}
 use Rattle.kernel_tables.specs.Threads.{plain_thread}
 
 -- a thread that is bound to no core
@@ -15,7 +15,7 @@ unbound (d ∷ defs) zero def all there is = subst (λ (x : ThreadDef). x.core �
 unbound (d ∷ defs) (suc i) def all there is = unbound defs i def all.1 (omega (arith, there)) is
 
 -- a row more
-pub rows_more : (rows : List Row) (defs : List ThreadDef) (i : ℕ) (def : ThreadDef) (row : Row) → i < length defs → def ≡ get_or defs i def → plain_thread row ≡ new_script_thread def → map plain_thread rows ≡ map new_script_thread (take i defs)
+pub rows_more : (rows : List ThreadRow) (defs : List ThreadDef) (i : ℕ) (def : ThreadDef) (row : ThreadRow) → i < length defs → def ≡ get_or defs i def → plain_thread row ≡ new_script_thread def → map plain_thread rows ≡ map new_script_thread (take i defs)
     → map plain_thread (rows ++ row ∷ []) ≡ map new_script_thread (take (i + 1) defs)
 rows_more rows defs i def row there is same before =
     map-append plain_thread rows (row ∷ [])

@@ -2,27 +2,27 @@
 use Rattle.std.specs.Prelude.{◌≡◌, ◌==◌, ◌-◌, ℕ, Bool, true, not, ◌&&◌, List, [], None, slice_set, slice_index_or, if◌then◌else◌}
 use Rattle.std.specs.Str.{bytes_eq}
 use Rattle.rt_plain.specs.kernel.State.{Thread, Stage, Initial, Active, Waiting, Suspended, Closed, InCall, no_thread, is_closed}
-use Rattle.kernel_tables.specs.declared.place.Place.{Place}
-use Rattle.kernel_tables.specs.declared.rows.Row.{Row}
+use Rattle.kernel_tables.specs.declared.stage.Stage.{Stage as OwnStage}
+use Rattle.kernel_tables.specs.declared.threads.Thread.{Thread as ThreadRow}
 use Rattle.kernel_tables.specs.declared.vars.Vars.{Vars}
 
 -- where a thread stands
-abbrev pub stage_of : Place → Stage
-stage_of Place.Initial = Initial
-stage_of Place.Active = Active
-stage_of (Place.Waiting call arrival) = Waiting (InCall call) arrival
-stage_of Place.Suspended = Suspended
-stage_of Place.Closed = Closed
+abbrev pub stage_of : OwnStage → Stage
+stage_of OwnStage.Initial = Initial
+stage_of OwnStage.Active = Active
+stage_of (OwnStage.Waiting call arrival) = Waiting (InCall call) arrival
+stage_of OwnStage.Suspended = Suspended
+stage_of OwnStage.Closed = Closed
 
 -- a thread. What isn't built yet is constant: it is bound to no core, has no text, and makes no call again
-abbrev pub plain_thread : Row → Thread
+abbrev pub plain_thread : ThreadRow → Thread
 plain_thread r = record {
   name = r.name;
   base = r.base;
   slice = r.vars.slice;
   left = r.vars.left;
   core = None;
-  stage = stage_of r.place;
+  stage = stage_of r.stage;
   next = r.vars.next;
   code = r.vars.code;
   value = r.vars.value;

@@ -5,8 +5,8 @@ ghost use Rattle.rt_plain.specs.kernel.State.{EventObj as PlainEvent};
 ghost use Rattle.ipc_counts.specs.Flags.{plain_want};
 ghost use Rattle.kernel_tables.specs.Tabled.{found_event, flags_got, events_received, CreatesEvent, event_line, woken_on, sent_to, without_event};
 
-use crate::queue::Queue;
 use crate::tables::Tables;
+use crate::thread_list::ThreadList;
 use crate::wait_list::WaitList;
 use crate::waking::wake_all;
 use crate::woken::WokenThreads;
@@ -37,11 +37,11 @@ impl Tables {
         let Some(no) = self.lists.objects.find(Class::Event, name) else {
             return false;
         };
-        let _ = self.rows.len();
+        let _ = self.threads.len();
         woken.send(&mut self.lists.events[no.0 as usize], mask);
         for i in 0..woken.len() {
             let (t, flags) = woken.at(i);
-            self.rows.give(t, flags);
+            self.threads.give(t, flags);
         }
         true
     }
@@ -58,7 +58,7 @@ impl Tables {
 
     /// Drops the event object of a name, and wakes all its waiters with -1: false exactly where there is none. `woken`
     /// gets them in the order of their list.
-    pub fn delete_event(&mut self, name: &Name, woken: &mut Queue) -> bool
+    pub fn delete_event(&mut self, name: &Name, woken: &mut ThreadList) -> bool
         ensures answer { result ≡ is_some (found_event self.old.events name.now) }
         ensures missing { OnFalse result (self.new ≡ self.old) }
         ensures woken { (event : PlainEvent) → found_event self.old.events name.now ≡ Some event → woken.new ≡ event_line self.old.threads event }
@@ -70,7 +70,7 @@ impl Tables {
             return false;
         };
         wake_all(
-            &mut self.rows,
+            &mut self.threads,
             &mut self.lists,
             WaitList::Event,
             no,

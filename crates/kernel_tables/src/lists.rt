@@ -5,7 +5,7 @@ ghost use Rattle.kernel_tables.specs.Listed.{waits_in, slots_in, want_in, left, 
 ghost use Rattle.kernel_tables.specs.Threads.{stage_of};
 ghost use Rattle.kernel_tables.specs.WaitLists.{list_of, number_at, list_at};
 
-use crate::place::Place;
+use crate::stage::Stage;
 use crate::wait_list::WaitList;
 use ipc_counts::{EventObj, Sem, Want};
 use object_box::Objects;
@@ -38,12 +38,12 @@ impl Lists {
         }
     }
 
-    // The list in which a thread at this place stands.
-    fn list_at(&self, place: &Place) -> Option<(WaitList, ObjNo)>
-        ensures { result ≡ list_at self.now.objects (stage_of place.now) }
+    // The list in which a thread at this stage stands.
+    fn list_at(&self, stage: &Stage) -> Option<(WaitList, ObjNo)>
+        ensures { result ≡ list_at self.now.objects (stage_of stage.now) }
     {
-        match place {
-            Place::Waiting(call, _) => self.list_of(call),
+        match stage {
+            Stage::Waiting(call, _) => self.list_of(call),
             _ => None,
         }
     }
@@ -70,12 +70,12 @@ impl Lists {
         }
     }
 
-    // The thread at this place leaves its list, if it stands in one.
-    pub fn leave_at(&mut self, t: ThreadNo, place: &Place)
-        requires { Holds self.old (list_at self.old.objects (stage_of place.now)) t }
-        ensures { IsRelisted self.old self.new (list_at self.old.objects (stage_of place.now)) (left t) }
+    // The thread at this stage leaves its list, if it stands in one.
+    pub fn leave_at(&mut self, t: ThreadNo, stage: &Stage)
+        requires { Holds self.old (list_at self.old.objects (stage_of stage.now)) t }
+        ensures { IsRelisted self.old self.new (list_at self.old.objects (stage_of stage.now)) (left t) }
     {
-        match self.list_at(place) {
+        match self.list_at(stage) {
             Some((WaitList::Sem, no)) => self.sems[no.0 as usize].waiters().leave(t),
             Some((WaitList::Event, no)) => self.events[no.0 as usize].leave(t),
             None => {}
@@ -107,12 +107,12 @@ impl Lists {
         }
     }
 
-    // The thread at this place has another priority in its list, if it stands in one.
-    pub fn reprio_at(&mut self, t: ThreadNo, place: &Place, prio: Prio)
-        requires { Holds self.old (list_at self.old.objects (stage_of place.now)) t }
-        ensures { IsRelisted self.old self.new (list_at self.old.objects (stage_of place.now)) (moved t prio) }
+    // The thread at this stage has another priority in its list, if it stands in one.
+    pub fn reprio_at(&mut self, t: ThreadNo, stage: &Stage, prio: Prio)
+        requires { Holds self.old (list_at self.old.objects (stage_of stage.now)) t }
+        ensures { IsRelisted self.old self.new (list_at self.old.objects (stage_of stage.now)) (moved t prio) }
     {
-        match self.list_at(place) {
+        match self.list_at(stage) {
             Some((WaitList::Sem, no)) => self.sems[no.0 as usize].waiters().reprio(t, prio),
             Some((WaitList::Event, no)) => self.events[no.0 as usize].reprio(t, prio),
             None => {}

@@ -7,10 +7,10 @@ ghost use Rattle.kernel_tables.specs.Opened.{empty_waits, AreFreeSems, AreFreeEv
 ghost use Rattle.kernel_tables.specs.Threads.{plain_thread, row_at, stage_of};
 
 use crate::lists::Lists;
-use crate::place::Place;
-use crate::queue::Queue;
-use crate::rows::{Row, Rows};
+use crate::stage::Stage;
 use crate::tables::Tables;
+use crate::thread_list::ThreadList;
+use crate::threads::{Thread, Threads};
 use crate::vars::Vars;
 use ipc_counts::{EventObj, Sem};
 use object_box::{ClassLimits, Objects};
@@ -19,25 +19,25 @@ use rt_plain::{Board, EventDef, SemDef, ThreadDef};
 use std::alloc::{AllocError, Global};
 
 // Where a thread stands before its first statement.
-fn first_place(is_started: bool) -> Place
+fn first_stage(is_started: bool) -> Stage
     ensures { stage_of result ≡ (if is_started then Active else Initial) }
 {
     if is_started {
-        Place::Active
+        Stage::Active
     } else {
-        Place::Initial
+        Stage::Initial
     }
 }
 
 // A thread of the board before its first statement.
-fn row_of(def: &ThreadDef) -> Row
+fn thread_of(def: &ThreadDef) -> Thread
     requires { def.now.core ≡ None }
     ensures { plain_thread result ≡ new_script_thread def.now }
 {
-    Row {
+    Thread {
         name: def.name.copy(),
         base: def.prio,
-        place: first_place(def.started),
+        stage: first_stage(def.started),
         vars: Vars {
             slice: def.slice,
             left: def.slice,
@@ -52,20 +52,20 @@ fn row_of(def: &ThreadDef) -> Row
 }
 
 // The threads of the board before their first statements.
-fn rows_of(alloc: Global, defs: &[ThreadDef]) -> Result<Vec<Row>, AllocError>
+fn threads_of(alloc: Global, defs: &[ThreadDef]) -> Result<Vec<Thread>, AllocError>
     requires unbound { AllByRecursion (λ (def : PlainDef). def.core ≡ None) defs.now }
-    ensures { IfOk result (λ rows. map plain_thread rows.items ≡ map new_script_thread defs.now) }
+    ensures { IfOk result (λ threads. map plain_thread threads.items ≡ map new_script_thread defs.now) }
 {
-    let mut rows = Vec::with_capacity(alloc, defs.len())?;
+    let mut threads = Vec::with_capacity(alloc, defs.len())?;
     for def in defs {
-        rows.push_reserved(row_of(def));
+        threads.push_reserved(thread_of(def));
     }
-    Ok(rows)
+    Ok(threads)
 }
 
-impl Rows {
+impl Threads {
     /// The started threads go to the end of a list, in thread order. The list is empty before.
-    pub fn start(&self, ready: &mut Queue)
+    pub fn start(&self, ready: &mut ThreadList)
         requires { ready.old ≡ [] }
         ensures { ready.new ≡ filter (λ t. not (is_initial (row_at self.now t).stage)) (range_with_len 0 (length self.now)) }
     {
@@ -162,10 +162,10 @@ impl Tables {
         requires { MayOpen board.now }
         ensures { IfOk result (λ k. k ≡ first_tables board.now) }
     {
-        let rows = Rows::new(rows_of(alloc, board.threads.as_slice())?);
-        let threads = rows.len() as u16;
-        let lists = Lists::new(alloc, board.limits.sem, board.limits.event, threads)?;
-        let mut tables = Tables { rows, lists };
+        let threads = Threads::new(threads_of(alloc, board.threads.as_slice())?);
+        let count = threads.len() as u16;
+        let lists = Lists::new(alloc, board.limits.sem, board.limits.event, count)?;
+        let mut tables = Tables { threads, lists };
         tables.create_sems(board.sems.as_slice());
         tables.create_events(board.events.as_slice());
         Ok(tables)

@@ -4,8 +4,8 @@ ghost use Rattle.std.specs.Option.{option_map};
 ghost use Rattle.rt_plain.specs.kernel.State.{Sem as PlainSem};
 ghost use Rattle.kernel_tables.specs.Tabled.{found_sem, sems_taken, Releases, CreatesSem, sem_line, without_sem};
 
-use crate::queue::Queue;
 use crate::tables::Tables;
+use crate::thread_list::ThreadList;
 use crate::wait_list::WaitList;
 use crate::waking::wake_all;
 use ipc_counts::SemReleased;
@@ -31,7 +31,7 @@ impl Tables {
         let no = self.lists.objects.find(Class::Sem, name)?;
         let answer = self.lists.sems[no.0 as usize].release();
         if let SemReleased::Woke(t) = answer {
-            self.rows.wake(t, Code::Ok);
+            self.threads.wake(t, Code::Ok);
         }
         Some(answer)
     }
@@ -49,7 +49,7 @@ impl Tables {
 
     /// Drops the semaphore of a name, and wakes all its waiters with -1: false exactly where there is none. `woken` gets
     /// them in the order of their list.
-    pub fn delete_sem(&mut self, name: &Name, woken: &mut Queue) -> bool
+    pub fn delete_sem(&mut self, name: &Name, woken: &mut ThreadList) -> bool
         ensures answer { result ≡ is_some (found_sem self.old.sems name.now) }
         ensures missing { OnFalse result (self.new ≡ self.old) }
         ensures woken { (sem : PlainSem) → found_sem self.old.sems name.now ≡ Some sem → woken.new ≡ sem_line self.old.threads sem }
@@ -61,7 +61,7 @@ impl Tables {
             return false;
         };
         wake_all(
-            &mut self.rows,
+            &mut self.threads,
             &mut self.lists,
             WaitList::Sem,
             no,

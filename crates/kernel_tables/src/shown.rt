@@ -1,10 +1,10 @@
 ghost use Rattle.std.specs.Prelude.{◌≡◌, ◌<◌, ◌≤◌, length, slice_get, Some};
 ghost use Rattle.kernel_tables.specs.Shown.{shown};
 
-use crate::rows::Rows;
+use crate::threads::Threads;
 use rt_base::ThreadNo;
 
-impl Rows {
+impl Threads {
     /// How many threads haven't ended.
     #[tactic(auto, using(crate::proofs::ShownLemmas::shows))]
     pub fn shown_count(&self) -> usize

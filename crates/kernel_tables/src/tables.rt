@@ -5,8 +5,8 @@ ghost use Rattle.kernel_tables.specs.Tabled.{is_unlisted, knows};
 ghost use Rattle.kernel_tables.specs.Threads.{stage_of, with_row, with_vars};
 
 use crate::lists::Lists;
-use crate::place::Place;
-use crate::rows::Rows;
+use crate::stage::Stage;
+use crate::threads::Threads;
 use crate::vars::Vars;
 use rt_base::{Code, Prio, ThreadNo};
 use rt_plain::Call;
@@ -16,7 +16,7 @@ use std::marker::Model;
 /// list of each object holds exactly the threads that wait for it.
 #[derive(Drop)]
 pub struct Tables {
-    pub(crate) rows: Rows,
+    pub(crate) threads: Threads,
     pub(crate) lists: Lists,
 }
 
@@ -26,27 +26,27 @@ impl Model for Tables {
 
     ghost Value = { Tabled };
 
-    ghost view = { λ k. tabled k.rows k.lists };
+    ghost view = { λ k. tabled k.threads k.lists };
 
-    ghost invariant = { λ k. IsTied k.rows k.lists };
+    ghost invariant = { λ k. IsTied k.threads k.lists };
 }
 
 impl Tables {
     /// The threads by number.
-    pub fn rows(&self) -> &Rows
+    pub fn threads(&self) -> &Threads
         ensures { result.now ≡ self.now.threads }
     {
-        &self.rows
+        &self.threads
     }
 
     /// The thread stands somewhere else, where it waits for no object. It leaves its wait.
-    pub fn stand(&mut self, t: ThreadNo, place: Place)
+    pub fn stand(&mut self, t: ThreadNo, stage: Stage)
         requires there { t < length self.old.threads }
-        requires unlisted { is_unlisted (stage_of place) ≡ true }
-        ensures { self.new ≡ record self.old { threads = with_row self.old.threads t (λ row. record row { stage = stage_of place }) } }
+        requires unlisted { is_unlisted (stage_of stage) ≡ true }
+        ensures { self.new ≡ record self.old { threads = with_row self.old.threads t (λ row. record row { stage = stage_of stage }) } }
     {
-        self.lists.leave_at(t, self.rows.place(t));
-        self.rows.stand(t, place);
+        self.lists.leave_at(t, self.threads.stage(t));
+        self.threads.stand(t, stage);
     }
 
     /// The thread has ended, and has nothing to do again. It leaves its wait.
@@ -54,8 +54,8 @@ impl Tables {
         requires { t < length self.old.threads }
         ensures { self.new ≡ record self.old { threads = with_row self.old.threads t (λ row. record row { stage = Closed; retry = None }) } }
     {
-        self.lists.leave_at(t, self.rows.place(t));
-        self.rows.close(t);
+        self.lists.leave_at(t, self.threads.stage(t));
+        self.threads.close(t);
     }
 
     /// The thread waits in a call, whose object is there, with its arrival number.
@@ -64,9 +64,9 @@ impl Tables {
         requires known { knows self.old call ≡ true }
         ensures { self.new ≡ record self.old { threads = with_row self.old.threads t (λ row. record row { stage = Waiting (InCall call) at }) } }
     {
-        self.lists.leave_at(t, self.rows.place(t));
-        self.lists.join(t, &call, self.rows.base(t), at);
-        self.rows.stand(t, Place::Waiting(call, at));
+        self.lists.leave_at(t, self.threads.stage(t));
+        self.lists.join(t, &call, self.threads.base(t), at);
+        self.threads.stand(t, Stage::Waiting(call, at));
     }
 
     /// The thread has another base priority, also where it waits.
@@ -74,8 +74,8 @@ impl Tables {
         requires { t < length self.old.threads }
         ensures { self.new ≡ record self.old { threads = with_row self.old.threads t (λ row. record row { base = base }) } }
     {
-        self.lists.reprio_at(t, self.rows.place(t), base);
-        self.rows.set_base(t, base);
+        self.lists.reprio_at(t, self.threads.stage(t), base);
+        self.threads.set_base(t, base);
     }
 
     /// The thread has these variables.
@@ -83,7 +83,7 @@ impl Tables {
         requires { t < length self.old.threads }
         ensures { self.new ≡ record self.old { threads = with_row self.old.threads t (with_vars vars) } }
     {
-        self.rows.set_vars(t, vars);
+        self.threads.set_vars(t, vars);
     }
 
     /// The thread does this statement next.
@@ -91,7 +91,7 @@ impl Tables {
         requires { t < length self.old.threads }
         ensures { self.new ≡ record self.old { threads = with_row self.old.threads t (λ row. record row { next = next }) } }
     {
-        let mut vars = self.rows.vars(t);
+        let mut vars = self.threads.vars(t);
         vars.next = next;
         self.set_vars(t, vars);
     }
@@ -101,7 +101,7 @@ impl Tables {
         requires { t < length self.old.threads }
         ensures { self.new ≡ record self.old { threads = with_row self.old.threads t (λ row. record row { code = code }) } }
     {
-        let mut vars = self.rows.vars(t);
+        let mut vars = self.threads.vars(t);
         vars.code = code;
         self.set_vars(t, vars);
     }
@@ -111,7 +111,7 @@ impl Tables {
         requires { t < length self.old.threads }
         ensures { self.new ≡ record self.old { threads = with_row self.old.threads t (λ row. record row { marked = false }) } }
     {
-        let mut vars = self.rows.vars(t);
+        let mut vars = self.threads.vars(t);
         vars.marked = false;
         self.set_vars(t, vars);
     }
@@ -121,7 +121,7 @@ impl Tables {
         requires { t < length self.old.threads }
         ensures { self.new ≡ record self.old { threads = with_row self.old.threads t thread_after_slice } }
     {
-        let mut vars = self.rows.vars(t);
+        let mut vars = self.threads.vars(t);
         vars.fall();
         self.set_vars(t, vars);
     }

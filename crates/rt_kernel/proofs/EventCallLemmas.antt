@@ -14,7 +14,7 @@ use Rattle.rt_plain.specs.kernel.DeleteCall.{deletion_outcome, event_deletion}
 use Rattle.rt_plain.proofs.text.FieldLemmas.{is_word}
 use Rattle.rt_plain.proofs.text.StatementTableLemmas.{find_some}
 use Rattle.rt_plain.proofs.kernel.TallyLemmas.{all-map, all-filter}
-use Rattle.rt_kernel.specs.declared.records.Records.{Records}
+use Rattle.rt_kernel.specs.declared.state.State.{State as KernelState}
 use Rattle.kernel_tables.specs.Tabled.{Tabled, found_event, event_line, flags_got, events_received, wanting_on, woken_on, sent_to, all_woken}
 use Rattle.kernel_tables.specs.Threads.{row_at}
 use Rattle.rt_kernel.specs.View.{state_of}
@@ -69,7 +69,7 @@ event-deletes s name woken free there are = by_found (found_event s.events name)
     listed = ap (λ (n : List ℕ). waiters s event.order (receives_event n)) (sym (found-name s.events name event is)) ∙ waiters-line s event.order (receives_event event.name) free ∙ sym (are event is)
 
 -- what a send leaves, and what follows from it
-pub record IsSent (r : Records) (new : Tabled) (name : List ℕ) (mask : ℕ) (woken : List (ℕ × ℕ)) : Type 0 where
+pub record IsSent (r : KernelState) (new : Tabled) (name : List ℕ) (mask : ℕ) (woken : List (ℕ × ℕ)) : Type 0 where
   pub names : (v : ℕ) → (row_at new.threads v).name ≡ (row_at r.tables.threads v).name
   pub count : length new.threads ≡ length r.tables.threads
   pub there : AllByRecursion (λ (w : ℕ × ℕ). w.0 < length r.tables.threads) woken
@@ -82,7 +82,7 @@ woken-there s event mask free =
     (all-filter (λ (w : Wanting). w.thread < length s.threads) (λ (w : Wanting). is_satisfied (bit_or event.flags mask) w.want) (wanting_on s.threads event)
     (all-map (λ (w : Wanting). w.thread < length s.threads) _ (event_line s.threads event) (line-there s event.order (receives_event event.name) free)))
 
-pub event-sends : (r : Records) (new : Tabled) (name : List ℕ) (mask : ℕ) (woken : List (ℕ × ℕ)) → true ≡ is_some (found_event r.tables.events name)
+pub event-sends : (r : KernelState) (new : Tabled) (name : List ℕ) (mask : ℕ) (woken : List (ℕ × ℕ)) → true ≡ is_some (found_event r.tables.events name)
     → ((event : EventObj) → found_event r.tables.events name ≡ Some event → woken ≡ woken_on r.tables.threads event mask)
     → ((event : EventObj) → found_event r.tables.events name ≡ Some event → new ≡ sent_to r.tables event mask)
     → ((event : EventObj) → found_event r.tables.events name ≡ Some event → length woken ≤ length r.tables.threads)

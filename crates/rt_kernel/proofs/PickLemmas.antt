@@ -5,7 +5,7 @@ use Rattle.std.specs.List.{list_any}
 use Rattle.rt_plain.specs.kernel.State.{State, thread_at}
 use Rattle.rt_kernel.specs.View.{state_of}
 use Rattle.kernel_tables.specs.Threads.{ArePlain}
-use Rattle.rt_kernel.specs.declared.records.Records.{Records}
+use Rattle.rt_kernel.specs.declared.state.State.{State as KernelState}
 use Rattle.rt_plain.specs.kernel.Priority.{cur}
 use Rattle.rt_plain.specs.kernel.Pick.{pick, first_best, goes_before, is_free_for, ready_row}
 use Rattle.rt_kernel.specs.Best.{better, best_from, base_of}
@@ -122,7 +122,7 @@ pub pick-scan : (s : State) (core : ℕ) → IsFree s → IsUnbound s → pick s
 pick-scan s core free unbound = ap (λ rows. option_map (λ row. row.thread) (first_best rows)) (all-free s core unbound s.ready) ∙ find-map s free unbound s.ready s.ready ∙ find-all (base_of s) s.ready
 
 -- the pick of the records
-pub pick_kernel : (k : Records) → ArePlain k.tables.threads → pick (state_of k) 0 ≡ best_from (base_of (state_of k)) None k.ready
+pub pick_kernel : (k : KernelState) → ArePlain k.tables.threads → pick (state_of k) 0 ≡ best_from (base_of (state_of k)) None k.ready
 pick_kernel k plain = pick-scan (state_of k) 0 refl (λ t. (plain t).core)
 
 best-suc : (f : ℕ → ℕ) (found : Option ℕ) (i d : ℕ) (xs : List ℕ) → i < length xs → best_from f (better f found (get_or xs i d)) (drop (suc i) xs) ≡ best_from f found (drop i xs)

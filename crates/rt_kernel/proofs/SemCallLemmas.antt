@@ -14,7 +14,7 @@ use Rattle.rt_plain.specs.kernel.DeleteCall.{deletion_outcome, sem_deletion}
 use Rattle.rt_plain.proofs.text.FieldLemmas.{is_word}
 use Rattle.rt_plain.proofs.text.StatementTableLemmas.{find_some}
 use Rattle.ipc_counts.specs.declared.sem.SemReleased.TheVariants.{Woke, Raised, Full}
-use Rattle.rt_kernel.specs.declared.records.Records.{Records}
+use Rattle.rt_kernel.specs.declared.state.State.{State as KernelState}
 use Rattle.kernel_tables.specs.Tabled.{Tabled, Releases, found_sem, sem_line, sems_taken, woken_row, all_woken}
 use Rattle.kernel_tables.specs.Threads.{row_at}
 use Rattle.rt_kernel.specs.View.{state_of}
@@ -66,11 +66,11 @@ release-head s name sem free is =
     ∙ ap (λ (ts : List ℕ). sem_release_outcome sem (head_of ts) s) (waiters-line s sem.order (takes_sem sem.name) free)
 
 -- the call does nothing at the highest value
-pub release-full : (r : Records) (new : Tabled) (name : List ℕ) → Releases r.tables new name (Some Full) → (new ≡ r.tables) × (sem_release name (state_of r) ≡ refusal (state_of r) Code.Full)
+pub release-full : (r : KernelState) (new : Tabled) (name : List ℕ) → Releases r.tables new name (Some Full) → (new ≡ r.tables) × (sem_release name (state_of r) ≡ refusal (state_of r) Code.Full)
 release-full r new name (sem, (is, (none, (high, same)))) = (same, release-head (state_of r) name sem refl is ∙ ap (λ (o : Option ℕ). sem_release_outcome sem o (state_of r)) none ∙ rw high refl)
 
 -- the value is one more where nobody waits
-pub release-raised : (r : Records) (new : Tabled) (name : List ℕ) → Releases r.tables new name (Some Raised) → (new.threads ≡ r.tables.threads) × (sem_release name (state_of r) ≡ silent_success (on r new))
+pub release-raised : (r : KernelState) (new : Tabled) (name : List ℕ) → Releases r.tables new name (Some Raised) → (new.threads ≡ r.tables.threads) × (sem_release name (state_of r) ≡ silent_success (on r new))
 release-raised r new name (sem, (is, (none, (low, same)))) = (
   ap (λ (k : Tabled). k.threads) same,
   release-head (state_of r) name sem refl is ∙ ap (λ (o : Option ℕ). sem_release_outcome sem o (state_of r)) none ∙ by_test (sem.value == 65535) refl ∙ ap (λ (k : Tabled). silent_success (on r k)) (sym same),
@@ -83,7 +83,7 @@ release-raised r new name (sem, (is, (none, (low, same)))) = (
   by_test false is = refl
 
 -- the first waiter wakes
-pub release-woke : (r : Records) (new : Tabled) (name : List ℕ) (u : ℕ) → Releases r.tables new name (Some (Woke u)) → ((v : ℕ) → (row_at new.threads v).name ≡ (row_at r.tables.threads v).name) × (sem_release name (state_of r) ≡ success (follow_effect Code.Ok u (on r new)))
+pub release-woke : (r : KernelState) (new : Tabled) (name : List ℕ) (u : ℕ) → Releases r.tables new name (Some (Woke u)) → ((v : ℕ) → (row_at new.threads v).name ≡ (row_at r.tables.threads v).name) × (sem_release name (state_of r) ≡ success (follow_effect Code.Ok u (on r new)))
 release-woke r new name u (sem, (is, (first, (there, same)))) = (
   λ v. ap (λ (k : Tabled). (row_at k.threads v).name) same ∙ row_names r.tables.threads u v (woken_row Code.Ok (row_at r.tables.threads u)) refl,
   release-head (state_of r) name sem refl is ∙ ap (λ (o : Option ℕ). sem_release_outcome sem o (state_of r)) first ∙ ap success (wake-follows Code.Ok u (state_of r)) ∙ ap (λ (k : Tabled). success (follow_effect Code.Ok u (on r k))) (sym same),

@@ -4,7 +4,7 @@ use Rattle.rt_base.specs.declared.codes.Sleep.{Sleep}
 use Rattle.rt_plain.specs.kernel.State.{thread_at}
 use Rattle.rt_plain.specs.kernel.Priority.{cur}
 use Rattle.rt_plain.specs.kernel.PowerCalls.{votes_for}
-use Rattle.rt_kernel.specs.declared.records.Records.{Records}
+use Rattle.rt_kernel.specs.declared.state.State.{State as KernelState}
 use Rattle.rt_kernel.specs.View.{state_of}
 use Rattle.rt_kernel.proofs.CurLemmas.{cur-base}
 
@@ -18,7 +18,7 @@ no_votes Sleep.Standby = refl
 no_votes Sleep.Shutdown = refl
 
 -- the current priority is the base
-pub cur_kernel : (k : Records) (t : ℕ) → cur (state_of k) t ≡ (thread_at (state_of k) t).base
+pub cur_kernel : (k : KernelState) (t : ℕ) → cur (state_of k) t ≡ (thread_at (state_of k) t).base
 cur_kernel k t = cur-base (state_of k) t refl
 
 pub ruleset seen = (cur_kernel, no_votes)

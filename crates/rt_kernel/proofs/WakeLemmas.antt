@@ -18,7 +18,7 @@ use Rattle.rt_plain.proofs.kernel.Invariant.{is-there, waiting-open}
 use Rattle.rt_plain.proofs.kernel.TallyLemmas.{all-weaker, same-set, here-set, length-set_at}
 use Rattle.rt_plain.proofs.kernel.WakeLemmas.{waiters-wait}
 use Rattle.rt_kernel.specs.Followed.{followed}
-use Rattle.rt_kernel.specs.declared.records.Records.{Records}
+use Rattle.rt_kernel.specs.declared.state.State.{State as KernelState}
 use Rattle.kernel_tables.specs.Tabled.{Tabled, line_of, woken_row, given_row, all_woken, all_given}
 use Rattle.kernel_tables.specs.Threads.{with_row, row_at}
 use Rattle.rt_kernel.specs.View.{state_of}
@@ -27,7 +27,7 @@ use Rattle.rt_kernel.proofs.CurLemmas.{IsFree}
 use Rattle.rt_kernel.proofs.WaiterLemmas.{waiters-line}
 
 -- the records on other tables
-abbrev pub on : Records → Tabled → State
+abbrev pub on : KernelState → Tabled → State
 on r k = state_of (record r { tables = k })
 
 -- a change of a row keeps all names

@@ -17,5 +17,5 @@ frame_of b s = record { board = b; now = s.moment; low = s.moment; few = tally (
 -- the board is built, there is room for as many objects as it says, and what the rules of the kernel keep holds of the state
 pub record IsKernel (k : Inside) : Type 0 where
   pub built : IsBuilt k.board
-  pub limits : limits_of k.records.tables ≡ board_limits k.board
-  pub kept : Kept (frame_of k.board (state_of k.records)) (state_of k.records)
+  pub limits : limits_of k.state.tables ≡ board_limits k.board
+  pub kept : Kept (frame_of k.board (state_of k.state)) (state_of k.state)

@@ -3,10 +3,10 @@ use Rattle.std.specs.Prelude.{[], ◌∷◌, None, replicate}
 use Rattle.rt_base.specs.declared.codes.RunMode.{RunMode}
 use Rattle.rt_plain.specs.kernel.State.{State}
 use Rattle.rt_plain.specs.kernel.Opening.{new_console}
-use Rattle.rt_kernel.specs.declared.records.Records.{Records}
+use Rattle.rt_kernel.specs.declared.state.State.{State as KernelState}
 
 -- the state
-abbrev pub state_of : Records → State
+abbrev pub state_of : KernelState → State
 state_of k = record {
   moment = k.moment;
   numbers = k.numbers;

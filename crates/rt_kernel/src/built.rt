@@ -71,7 +71,7 @@ fn has_scripts_alone(board: &Board) -> bool
 }
 
 /// What the test of a built board says, and what each valid board has.
-pub fn built_facts(board: &Board)
+pub fn know_built(board: &Board)
     requires { is_built board.now ≡ true }
     ensures { IsBuilt board.now }
 {

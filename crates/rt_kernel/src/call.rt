@@ -9,12 +9,12 @@ ghost use Rattle.kernel_tables.specs.Threads.{row_at};
 ghost use Rattle.rt_kernel.specs.View.{state_of};
 
 use crate::answer::Answer;
-use crate::records::Records;
+use crate::state::State;
 use ipc_counts::Want;
 use rt_base::{Class, ThreadNo};
 use rt_plain::{Board, Call, Lines};
 
-impl Records {
+impl State {
     // Statement k of a thread, a call, with what follows from it.
     fn make(&mut self, board: &Board, t: ThreadNo, k: u16, call: &Call, out: &mut Lines) -> Answer
         requires built { is_built_call call.now ≡ true }
@@ -86,7 +86,7 @@ impl Records {
         ensures few { length out.new.items ≤ length out.old.items + 2 + length self.old.tables.threads }
         ensures out_room { out.new.room ≡ out.old.room }
     {
-        let k = self.tables.rows().next(t);
+        let k = self.tables.threads().next(t);
         self.tables.set_next(t, k + 1);
         self.make(board, t, k, call, out)
     }

@@ -9,13 +9,13 @@ ghost use Rattle.rt_kernel.specs.Limits.{limits_of, board_limits};
 ghost use Rattle.rt_kernel.specs.View.{state_of};
 
 use crate::answer::Answer;
-use crate::records::Records;
+use crate::state::State;
 use ipc_counts::Want;
 use object_box::Make;
 use rt_base::{Code, Name, ThreadNo, WaitOrder};
 use rt_plain::{Call, Lines};
 
-impl Records {
+impl State {
     // A new event object, on each board that allows as many as the tables do.
     pub fn event_create(
         &mut self,
@@ -68,7 +68,7 @@ impl Records {
         match self.tables.receive(name, want) {
             None => self.refuse(t, k, Code::Inval, out),
             Some(Some(flags)) => {
-                let mut vars = self.tables.rows().vars(t);
+                let mut vars = self.tables.threads().vars(t);
                 vars.value = flags;
                 self.tables.set_vars(t, vars);
                 self.succeed(t, k, out)
@@ -101,7 +101,7 @@ impl Records {
         ensures out_room { out.new.room ≡ out.old.room }
     {
         // There are at most 256 threads, so the ready list has room for all of them.
-        let _ = self.tables.rows().len();
+        let _ = self.tables.threads().len();
         if !self.tables.send(name, mask, &mut self.woken) {
             return self.refuse(t, k, Code::Inval, out);
         }
@@ -125,7 +125,7 @@ impl Records {
         ensures out_room { out.new.room ≡ out.old.room }
     {
         // There are at most 256 threads, so the ready list has room for all of them.
-        let _ = self.tables.rows().len();
+        let _ = self.tables.threads().len();
         if !self.tables.delete_event(name, &mut self.waited) {
             return self.refuse(t, k, Code::Inval, out);
         }

@@ -27,8 +27,8 @@ ghost use Rattle.kernel_tables.specs.Threads.{row_at, ArePlain};
 ghost use Rattle.rt_kernel.specs.View.{state_of};
 
 use crate::answer::{Answer, By};
-use crate::built::built_facts;
-use crate::records::Records;
+use crate::built::know_built;
+use crate::state::State;
 use rt_base::{CoreNo, Name, RunMode, Steps, ThreadNo, TimerNo};
 use rt_plain::{Board, Call, Lines, Stmt, ThreadDef};
 use std::alloc::{AllocError, Global};
@@ -41,7 +41,7 @@ use std::sync::ledger::Ledger;
 #[derive(Drop)]
 pub struct Kernel {
     pub(crate) board: Board,
-    pub(crate) records: Records,
+    pub(crate) state: State,
 }
 
 impl Model for Kernel {
@@ -52,25 +52,25 @@ impl Model for Kernel {
     ghost use Rattle.rt_kernel.specs.View.{state_of};
     ghost use Rattle.rt_kernel.specs.Inside.{IsKernel};
 
-    ghost view = { λ k. record { board = k.board; state = state_of k.records } };
+    ghost view = { λ k. record { board = k.board; state = state_of k.state } };
 
     ghost invariant = { IsKernel };
 }
 
-// What the kernel keeps of its records.
-fn facts(board: &Board, records: &Records)
+// What the kernel keeps of its state.
+fn know_state(board: &Board, state: &State)
     requires built { IsBuilt board.now }
-    requires kept { Kept (frame_of board.now (state_of records.now)) (state_of records.now) }
-    ensures ready { length records.now.ready ≤ 256 }
-    ensures armed { length records.now.armed ≤ 256 }
-    ensures moment { records.now.moment ≤ 1099511627775 }
-    ensures there { AreNumbers records.now.tables.threads records.now.ready }
-    ensures once { (u : ℕ) → length (filter (λ v. v == u) records.now.ready) ≤ 1 }
-    ensures running { IfSome records.now.running (λ r. r < length records.now.tables.threads) }
-    ensures next { (r : ℕ) → records.now.running ≡ Some r → (row_at records.now.tables.threads r).next < 2 ^ 16 - 1 }
+    requires kept { Kept (frame_of board.now (state_of state.now)) (state_of state.now) }
+    ensures ready { length state.now.ready ≤ 256 }
+    ensures armed { length state.now.armed ≤ 256 }
+    ensures moment { state.now.moment ≤ 1099511627775 }
+    ensures there { AreNumbers state.now.tables.threads state.now.ready }
+    ensures once { (u : ℕ) → length (filter (λ v. v == u) state.now.ready) ≤ 1 }
+    ensures running { IfSome state.now.running (λ r. r < length state.now.tables.threads) }
+    ensures next { (r : ℕ) → state.now.running ≡ Some r → (row_at state.now.tables.threads r).next < 2 ^ 16 - 1 }
 {
     let _board = board;
-    let _records = records;
+    let _state = state;
 }
 
 // Whether a thread has this name.
@@ -104,14 +104,14 @@ impl Kernel {
         ensures board { IfOk result (λ k. k.board ≡ board) }
         ensures state { IfOk result (λ k. k.state ≡ open_state board) }
     {
-        built_facts(&board);
-        let records = Records::open(alloc, &board)?;
-        Ok(Kernel { board, records })
+        know_built(&board);
+        let state = State::open(alloc, &board)?;
+        Ok(Kernel { board, state })
     }
 
     /// What is so in every kernel: the board is built, what isn't built yet is constant in the state, and a thread that
     /// runs has not ended.
-    pub fn facts(&self)
+    pub fn know_kernel(&self)
         ensures proper { IsProper self.now.board }
         ensures sized { IsSized self.now.board }
         ensures built { IsBuilt self.now.board }
@@ -122,7 +122,7 @@ impl Kernel {
         ensures there { (t : ℕ) → running_on self.now.state 0 ≡ Some t → t < length self.now.state.threads }
         ensures active { (t : ℕ) → running_on self.now.state 0 ≡ Some t → is_closed (thread_at self.now.state t).stage ≡ false }
     {
-        self.records.tables.rows().facts();
+        self.state.tables.threads().know_plain();
     }
 
     /// The board for which it was opened.
@@ -137,8 +137,8 @@ impl Kernel {
         ensures moment { result ≡ self.now.state.moment }
         ensures early { result ≤ 1099511627775 }
     {
-        facts(&self.board, &self.records);
-        self.records.moment
+        know_state(&self.board, &self.state);
+        self.state.moment
     }
 
     /// The tick that is shown now: the board's first one and the moment, modulo 4294967296.
@@ -153,14 +153,14 @@ impl Kernel {
     pub fn numbers(&self) -> u64
         ensures { result ≡ self.now.state.numbers }
     {
-        self.records.numbers
+        self.state.numbers
     }
 
     /// The run mode.
     pub fn run_mode(&self) -> RunMode
         ensures { result ≡ self.now.state.run_mode }
     {
-        let _records = &self.records;
+        let _state = &self.state;
         RunMode::Normal
     }
 
@@ -169,21 +169,21 @@ impl Kernel {
         requires { core < self.now.board.cores }
         ensures { result ≡ running_on self.now.state core }
     {
-        self.records.running
+        self.state.running
     }
 
     /// Whether no core runs a thread and none is ready.
     pub fn all_idle(&self) -> bool
         ensures { result ≡ is_all_idle self.now.state }
     {
-        self.records.ready.len() == 0 && !self.records.running.is_some()
+        self.state.ready.len() == 0 && !self.state.running.is_some()
     }
 
     /// Whether nothing is armed.
-    pub fn is_quiet(&self) -> bool
+    pub fn nothing_armed(&self) -> bool
         ensures { result ≡ is_empty self.now.state.armed }
     {
-        self.records.armed.is_empty()
+        self.state.armed.is_empty()
     }
 
     /// The number of the statement that a thread does next, from 1 on.
@@ -191,7 +191,7 @@ impl Kernel {
         requires { thread < length self.now.state.threads }
         ensures { result ≡ (thread_at self.now.state thread).next }
     {
-        self.records.tables.rows().next(thread)
+        self.state.tables.threads().next(thread)
     }
 
     /// Case 3 or 4 of a step: a free core takes a thread, or a core one in place of its own. False exactly where neither
@@ -207,8 +207,8 @@ impl Kernel {
         ensures few { length out.new.items ≤ length out.old.items + 2 }
         ensures out_room { out.new.room ≡ out.old.room }
     {
-        facts(&self.board, &self.records);
-        self.records.switch(out)
+        know_state(&self.board, &self.state);
+        self.state.switch(out)
     }
 
     /// The mark of a core's thread, as before each of its statements: it goes, unless the thread has a scheduler lock.
@@ -218,10 +218,10 @@ impl Kernel {
         ensures state { (t : ℕ) → running_on self.old.state core ≡ Some t
             → self.new.state ≡ (if is_preemptible self.old.state core t then without_mark self.old.state t else self.old.state) }
     {
-        facts(&self.board, &self.records);
-        if let Some(t) = self.records.running {
-            if self.records.is_preemptible(t) {
-                self.records.tables.unmark(t);
+        know_state(&self.board, &self.state);
+        if let Some(t) = self.state.running {
+            if self.state.is_preemptible(t) {
+                self.state.tables.unmark(t);
             }
         }
     }
@@ -231,8 +231,8 @@ impl Kernel {
         requires { thread < length self.now.state.threads }
         ensures { result ≡ statement_at (script_of self.now.board (thread_at self.now.state thread).name) (thread_at self.now.state thread).next }
     {
-        let name = self.records.tables.rows().name(thread);
-        let k = self.records.tables.rows().next(thread) as usize;
+        let name = self.state.tables.threads().name(thread);
+        let k = self.state.tables.threads().next(thread) as usize;
         match script_of(&self.board, &name).get(k.saturating_sub(1)) {
             Some(statement) => statement.copy(),
             None => Stmt::Exit,
@@ -257,11 +257,11 @@ impl Kernel {
         ensures few { length out.new.items ≤ length out.old.items + 2 }
         ensures out_room { out.new.room ≡ out.old.room }
     {
-        facts(&self.board, &self.records);
-        if let Some(t) = self.records.running {
-            let name = self.records.tables.rows().name(t);
+        know_state(&self.board, &self.state);
+        if let Some(t) = self.state.running {
+            let name = self.state.tables.threads().name(t);
             let script = script_of(&self.board, &name);
-            self.records.plain(t, script, stmt, out);
+            self.state.plain(t, script, stmt, out);
         }
     }
 
@@ -286,9 +286,9 @@ impl Kernel {
         ensures few { length out.new.items ≤ length out.old.items + 2 + length self.old.state.threads }
         ensures out_room { out.new.room ≡ out.old.room }
     {
-        facts(&self.board, &self.records);
+        know_state(&self.board, &self.state);
         match by {
-            By::Thread(t, _) => self.records.call(&self.board, t, call, out),
+            By::Thread(t, _) => self.state.call(&self.board, t, call, out),
             By::Timer(_) => unreachable!(),
         }
     }
@@ -301,8 +301,8 @@ impl Kernel {
         ensures board { self.new.board ≡ self.old.board }
         ensures state { self.new.state ≡ next_tick_state self.old.state }
     {
-        facts(&self.board, &self.records);
-        self.records.begin_tick();
+        know_state(&self.board, &self.state);
+        self.state.begin_tick();
     }
 
     /// Takes the row that fires first of those due at the moment: `None` exactly where none is due.
@@ -314,7 +314,7 @@ impl Kernel {
         ensures fewer { IfSome result (λ t. length (due self.new.state) < length (due self.old.state)) }
         ensures none { result ≡ None → due self.new.state ≡ [] }
     {
-        let t = self.records.take_due()?;
+        let t = self.state.take_due()?;
         Some(TimerNo(t.0))
     }
 
@@ -331,8 +331,8 @@ impl Kernel {
         ensures numbers { self.new.state.numbers ≡ self.old.state.numbers }
         ensures out_room { out.new.room ≡ out.old.room }
     {
-        facts(&self.board, &self.records);
-        self.records.fire(ThreadNo(no.0), out);
+        know_state(&self.board, &self.state);
+        self.state.fire(ThreadNo(no.0), out);
     }
 
     /// Ends a thread that hasn't ended, with what follows from it. It adds at most 1 line.
@@ -346,6 +346,6 @@ impl Kernel {
         ensures few { length out.new.items ≤ length out.old.items + 1 }
         ensures out_room { out.new.room ≡ out.old.room }
     {
-        self.records.close(thread, out);
+        self.state.close(thread, out);
     }
 }

@@ -1,4 +1,4 @@
-//! The kernel's records and all calls of scripts.
+//! The kernel's state and all calls of scripts.
 #![tactic(auto)]
 
 mod answer;
@@ -9,14 +9,14 @@ mod event_calls;
 mod kernel;
 mod object_calls;
 mod open;
-mod plain;
-mod records;
 mod sem_calls;
+mod state;
+mod statements;
 mod switch;
 mod thread_calls;
 mod ticks;
 mod view;
 
 pub use answer::{Answer, By};
-pub use built::{built_facts, is_built};
+pub use built::{is_built, know_built};
 pub use kernel::Kernel;

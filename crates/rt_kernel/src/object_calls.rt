@@ -9,11 +9,11 @@ ghost use Rattle.rt_kernel.specs.View.{state_of};
 ghost use Rattle.rt_kernel.specs.Wake.{follow_effect};
 
 use crate::answer::Answer;
-use crate::records::Records;
+use crate::state::State;
 use rt_base::{Code, ThreadNo};
 use rt_plain::{Call, Lines};
 
-impl Records {
+impl State {
     // The call is done, and answers 0.
     pub fn succeed(&mut self, t: ThreadNo, k: u16, out: &mut Lines) -> Answer
         requires there { t < length self.old.tables.threads }

@@ -5,26 +5,26 @@ ghost use Rattle.rt_kernel.specs.Limits.{limits_of, board_limits};
 ghost use Rattle.rt_kernel.specs.View.{state_of};
 
 use crate::armed::ArmedRows;
-use crate::records::Records;
-use kernel_tables::{Queue, Tables, WokenThreads};
+use crate::state::State;
+use kernel_tables::{Tables, ThreadList, WokenThreads};
 use rt_plain::Board;
 use std::alloc::{AllocError, Global};
 
-impl Records {
+impl State {
     // The records as the board opens. No later call takes memory.
     #[tactic(auto, using(crate::proofs::OpenLemmas::may_open))]
-    pub fn open(alloc: Global, board: &Board) -> Result<Records, AllocError>
+    pub fn open(alloc: Global, board: &Board) -> Result<State, AllocError>
         requires { IsBuilt board.now }
         ensures state { IfOk result (λ k. state_of k ≡ open_state board.now) }
         ensures limits { IfOk result (λ k. limits_of k.tables ≡ board_limits board.now) }
     {
-        let mut ready = Queue::new(alloc)?;
+        let mut ready = ThreadList::new(alloc)?;
         let armed = ArmedRows::new(alloc)?;
-        let waited = Queue::new(alloc)?;
+        let waited = ThreadList::new(alloc)?;
         let woken = WokenThreads::new(alloc)?;
         let tables = Tables::open(alloc, board)?;
-        tables.rows().start(&mut ready);
-        Ok(Records {
+        tables.threads().start(&mut ready);
+        Ok(State {
             moment: 0,
             numbers: 0,
             tables,

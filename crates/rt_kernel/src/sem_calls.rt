@@ -8,13 +8,13 @@ ghost use Rattle.rt_kernel.specs.Limits.{limits_of, board_limits};
 ghost use Rattle.rt_kernel.specs.View.{state_of};
 
 use crate::answer::Answer;
-use crate::records::Records;
+use crate::state::State;
 use ipc_counts::SemReleased;
 use object_box::Make;
 use rt_base::{Code, Name, ThreadNo, WaitOrder};
 use rt_plain::{Call, Lines};
 
-impl Records {
+impl State {
     // A new semaphore, on each board that allows as many as the tables do.
     pub fn sem_create(
         &mut self,
@@ -115,7 +115,7 @@ impl Records {
         ensures out_room { out.new.room ≡ out.old.room }
     {
         // There are at most 256 threads, so the ready list has room for all of them.
-        let _ = self.tables.rows().len();
+        let _ = self.tables.threads().len();
         if !self.tables.delete_sem(name, &mut self.waited) {
             return self.refuse(t, k, Code::Inval, out);
         }

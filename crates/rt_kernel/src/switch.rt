@@ -6,11 +6,11 @@ ghost use Rattle.rt_kernel.specs.Limits.{limits_of};
 ghost use Rattle.rt_kernel.specs.Switched.{switched, effect_or, run_effect, preempt_effect, AreNumbers};
 ghost use Rattle.rt_kernel.specs.View.{state_of};
 
-use crate::records::Records;
+use crate::state::State;
 use rt_base::ThreadNo;
 use rt_plain::{Line, Lines};
 
-impl Records {
+impl State {
     // The better one of what was found and a further thread.
     fn better(&self, found: Option<ThreadNo>, t: ThreadNo) -> Option<ThreadNo>
         requires there { t < length self.now.tables.threads }
@@ -21,7 +21,7 @@ impl Records {
         match found {
             None => Some(t),
             Some(u) => {
-                if self.tables.rows().base(t).0 < self.tables.rows().base(u).0 {
+                if self.tables.threads().base(t).0 < self.tables.threads().base(u).0 {
                     Some(t)
                 } else {
                     Some(u)
@@ -37,7 +37,7 @@ impl Records {
         ensures is { result ≡ pick (state_of self.now) 0 }
         ensures there { IfSome result (λ u. u < length self.now.tables.threads) }
     {
-        self.tables.rows().facts();
+        self.tables.threads().know_plain();
         let mut found = None;
         for i in 0..self.ready.len() {
             found = self.better(found, self.ready.at(i));
@@ -50,7 +50,7 @@ impl Records {
         requires { r < length self.now.tables.threads }
         ensures { result ≡ is_preemptible (state_of self.now) 0 r }
     {
-        self.tables.rows().locks(r) == 0
+        self.tables.threads().locks(r) == 0
     }
 
     // Whether the thread p takes the core from the running thread r.
@@ -60,9 +60,9 @@ impl Records {
         requires r { r < length self.now.tables.threads }
         ensures { result ≡ takes_from (state_of self.now) p r }
     {
-        let urgency = self.tables.rows().base(p).0;
-        let other = self.tables.rows().base(r).0;
-        urgency < other || (urgency == other && self.tables.rows().is_marked(r))
+        let urgency = self.tables.threads().base(p).0;
+        let other = self.tables.threads().base(r).0;
+        urgency < other || (urgency == other && self.tables.threads().is_marked(r))
     }
 
     // The core runs the thread.
@@ -81,7 +81,7 @@ impl Records {
         ensures state { state_of self.new ≡ preempted_state (state_of self.old) r }
         ensures limits { limits_of self.new.tables ≡ limits_of self.old.tables }
     {
-        let marked = self.tables.rows().is_marked(r);
+        let marked = self.tables.threads().is_marked(r);
         self.tables.unmark(r);
         if marked {
             self.ready.push_last(r);
@@ -101,7 +101,7 @@ impl Records {
         ensures few { length out.new.items ≤ length out.old.items + 1 }
         ensures out_room { out.new.room ≡ out.old.room }
     {
-        out.push(Line::Run(self.tables.rows().name(p)));
+        out.push(Line::Run(self.tables.threads().name(p)));
         self.run(p);
     }
 
@@ -118,8 +118,11 @@ impl Records {
         ensures few { length out.new.items ≤ length out.old.items + 2 }
         ensures out_room { out.new.room ≡ out.old.room }
     {
-        out.push(Line::Out(self.tables.rows().name(r), !self.tables.rows().is_marked(r)));
-        out.push(Line::Run(self.tables.rows().name(p)));
+        out.push(Line::Out(
+            self.tables.threads().name(r),
+            !self.tables.threads().is_marked(r),
+        ));
+        out.push(Line::Run(self.tables.threads().name(p)));
         self.preempt(r);
         self.run(p);
     }

@@ -10,14 +10,14 @@ ghost use Rattle.rt_kernel.specs.Prio.{prio_called, to_end};
 ghost use Rattle.rt_kernel.specs.View.{state_of};
 
 use crate::answer::Answer;
-use crate::records::Records;
-use kernel_tables::Queue;
+use crate::state::State;
+use kernel_tables::ThreadList;
 use rt_base::{Code, Name, Prio, ThreadNo};
 use rt_plain::{Call, Line, Lines, Woke};
 
 // The thread goes to the end of a list, if it stands in the list.
 #[tactic(auto, using(crate::proofs::EndLemmas::ends))]
-fn move_last(list: &mut Queue, t: ThreadNo)
+fn move_last(list: &mut ThreadList, t: ThreadNo)
     requires once { length (filter (λ u. u == t) list.old) ≤ 1 }
     requires room { length list.old < 512 }
     ensures { list.new ≡ to_end t list.old }
@@ -28,13 +28,13 @@ fn move_last(list: &mut Queue, t: ThreadNo)
     }
 }
 
-impl Records {
+impl State {
     // The thread of this name which hasn't ended.
     pub fn find_thread(&self, name: &Name) -> Option<ThreadNo>
         ensures found { result ≡ find_thread (state_of self.now) name.now }
         ensures there { IfSome result (λ u. u < length self.now.tables.threads) }
     {
-        self.tables.rows().find(name)
+        self.tables.threads().find(name)
     }
 
     // Whether a thread may not wait: it has a scheduler lock.
@@ -42,7 +42,7 @@ impl Records {
         requires { t < length self.now.tables.threads }
         ensures { result ≡ may_not_wait (state_of self.now) t 0 }
     {
-        0 < self.tables.rows().locks(t)
+        0 < self.tables.threads().locks(t)
     }
 
     // Statement k of a thread is shown with its code, none where it waits.
@@ -52,7 +52,7 @@ impl Records {
         ensures lines { out.new.items ≡ out.old.items ++ DoneLine (name_of (state_of self.now) t) k code ∷ [] }
         ensures out_room { out.new.room ≡ out.old.room }
     {
-        out.push(Line::Done(self.tables.rows().name(t), k, code));
+        out.push(Line::Done(self.tables.threads().name(t), k, code));
     }
 
     // The call is refused with a code.
@@ -109,7 +109,7 @@ impl Records {
         ensures out_room { out.new.room ≡ out.old.room }
     {
         self.show_done(t, k, Some(Code::Ok), out);
-        let mut vars = self.tables.rows().vars(t);
+        let mut vars = self.tables.threads().vars(t);
         vars.left = vars.slice;
         vars.marked = true;
         self.tables.set_vars(t, vars);
@@ -133,7 +133,7 @@ impl Records {
         let Some(u) = self.find_thread(name) else {
             return self.refuse(t, k, Code::Inval, out);
         };
-        if !self.tables.rows().is_initial(u) {
+        if !self.tables.threads().is_initial(u) {
             return self.refuse(t, k, Code::Error, out);
         }
         self.show_done(t, k, Some(Code::Ok), out);
@@ -194,11 +194,11 @@ impl Records {
         let Some(u) = self.find_thread(name) else {
             return self.refuse(t, k, Code::Inval, out);
         };
-        if self.tables.rows().is_suspended(u) {
+        if self.tables.threads().is_suspended(u) {
             self.show_done(t, k, Some(Code::Ok), out);
-            out.push(Line::Wake(self.tables.rows().name(u), Woke::Code(Code::Ok)));
+            out.push(Line::Wake(self.tables.threads().name(u), Woke::Code(Code::Ok)));
             self.activate(u);
-        } else if self.tables.rows().is_waiting(u) {
+        } else if self.tables.threads().is_waiting(u) {
             self.show_done(t, k, Some(Code::Ok), out);
             self.wake(u, Code::Intr, out);
         } else {
@@ -241,7 +241,7 @@ impl Records {
         ensures few { length out.new.items ≤ length out.old.items + 1 }
         ensures out_room { out.new.room ≡ out.old.room }
     {
-        let mut vars = self.tables.rows().vars(t);
+        let mut vars = self.tables.threads().vars(t);
         if vars.locks == u8::MAX {
             return self.refuse(t, k, Code::Full, out);
         }
@@ -264,7 +264,7 @@ impl Records {
         ensures few { length out.new.items ≤ length out.old.items + 1 }
         ensures out_room { out.new.room ≡ out.old.room }
     {
-        let mut vars = self.tables.rows().vars(t);
+        let mut vars = self.tables.threads().vars(t);
         if vars.locks == 0 {
             return self.refuse(t, k, Code::Error, out);
         }
@@ -300,8 +300,8 @@ impl Records {
         let Some(u) = self.find_thread(name) else {
             return self.refuse(t, k, Code::Inval, out);
         };
-        let old = self.tables.rows().base(u);
-        let name = self.tables.rows().name(u);
+        let old = self.tables.threads().base(u);
+        let name = self.tables.threads().name(u);
         self.show_done(t, k, Some(Code::Ok), out);
         self.tables.set_base(u, prio);
         self.tables.set_code(t, Code::Ok);

@@ -7,11 +7,11 @@ ghost use Rattle.rt_kernel.specs.Due.{first_alarm, taken};
 ghost use Rattle.rt_kernel.specs.Limits.{limits_of};
 ghost use Rattle.rt_kernel.specs.View.{state_of};
 
-use crate::records::Records;
+use crate::state::State;
 use rt_base::ThreadNo;
 use rt_plain::{Line, Lines};
 
-impl Records {
+impl State {
     // The moment grows by one tick, and the slice of the running thread falls.
     pub fn begin_tick(&mut self)
         requires moment { self.old.moment < 1099511627775 }
@@ -48,8 +48,8 @@ impl Records {
         ensures numbers { self.new.numbers ≡ self.old.numbers }
         ensures out_room { out.new.room ≡ out.old.room }
     {
-        let code = self.tables.rows().timeout_code(t);
-        out.push(Line::Timeout(self.tables.rows().name(t)));
+        let code = self.tables.threads().timeout_code(t);
+        out.push(Line::Timeout(self.tables.threads().name(t)));
         self.wake(t, code, out);
     }
 }

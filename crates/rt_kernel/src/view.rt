@@ -6,7 +6,7 @@ ghost use Rattle.rt_plain.specs.kernel.Rows.{rows as plain_rows, thread_row, dev
 ghost use Rattle.rt_kernel.specs.View.{state_of};
 
 use crate::kernel::Kernel;
-use crate::records::Records;
+use crate::state::State;
 use rt_base::{Class, Name, Sleep, ThreadNo};
 use rt_plain::{Row, View};
 
@@ -26,7 +26,7 @@ fn console_row() -> Row
     }
 }
 
-impl Records {
+impl State {
     // Whether the core runs this thread.
     fn is_running(&self, t: ThreadNo) -> bool
         ensures { result ≡ is_running (state_of self.now) t }
@@ -43,15 +43,15 @@ impl Records {
         requires { t < length self.now.tables.threads }
         ensures { result ≡ thread_row (state_of self.now) t }
     {
-        self.tables.rows().facts();
+        self.tables.threads().know_plain();
         Row::Thread {
-            name: self.tables.rows().name(t),
-            cur: self.tables.rows().base(t),
-            base: self.tables.rows().base(t),
-            state: self.tables.rows().state(t, self.is_running(t)),
+            name: self.tables.threads().name(t),
+            cur: self.tables.threads().base(t),
+            base: self.tables.threads().base(t),
+            state: self.tables.threads().state(t, self.is_running(t)),
             core: None,
-            left: self.tables.rows().left(t),
-            code: self.tables.rows().code(t),
+            left: self.tables.threads().left(t),
+            code: self.tables.threads().code(t),
         }
     }
 }
@@ -66,9 +66,9 @@ impl View for Kernel {
     /// The number of objects of a class.
     fn count(&self, class: Class) -> usize {
         match class {
-            Class::Thread => self.records.tables.rows().shown_count(),
-            Class::Sem => self.records.tables.sem_count() as usize,
-            Class::Event => self.records.tables.event_count() as usize,
+            Class::Thread => self.state.tables.threads().shown_count(),
+            Class::Sem => self.state.tables.sem_count() as usize,
+            Class::Event => self.state.tables.event_count() as usize,
             Class::Device => 1,
             _ => 0,
         }
@@ -78,10 +78,10 @@ impl View for Kernel {
     fn row(&self, class: Class, place: usize) -> Row {
         match class {
             Class::Thread => self
-                .records
-                .thread_row(self.records.tables.rows().shown_at(place)),
-            Class::Sem => self.records.tables.sem_row(place),
-            Class::Event => self.records.tables.event_row(place),
+                .state
+                .thread_row(self.state.tables.threads().shown_at(place)),
+            Class::Sem => self.state.tables.sem_row(place),
+            Class::Event => self.state.tables.event_row(place),
             Class::Device => console_row(),
             _ => unreachable!(),
         }
@@ -89,7 +89,7 @@ impl View for Kernel {
 
     /// The votes for a mode. None can be given yet.
     fn votes(&self, mode: Sleep) -> u8 {
-        let _records = &self.records;
+        let _state = &self.state;
         let _mode = mode;
         0
     }

@@ -80,15 +80,15 @@ fn step<L: Ledger>(
     out: &mut Lines,
     steps: &mut Steps<L>,
 ) -> Option<Answer> {
-    kernel.facts();
+    kernel.know_kernel();
     assert!(rt; out.spare() >= 2);
     if kernel.switch(CORE, out, steps) {
         return None;
     }
-    kernel.facts();
+    kernel.know_kernel();
     let thread = kernel.running(CORE)?;
     kernel.unmark(CORE);
-    kernel.facts();
+    kernel.know_kernel();
     assert!(rt; kernel.running(CORE) == Some(thread));
     assert!(rt; kernel.next(thread) > 0);
     assert!(rt; kernel.numbers() < 100);
@@ -125,7 +125,7 @@ fn perform<L: Ledger>(
         Act::Step(answer) => assert!(rt; step(rt, kernel, out, steps) == answer),
         Act::Tick => tick(rt, kernel, out, steps),
     }
-    kernel.facts();
+    kernel.know_kernel();
     assert!(rt; kernel.running(CORE) == stage.running);
     assert_eq!(rt; kernel.moment(), stage.moment);
     assert_eq!(rt; kernel.numbers(), stage.numbers);
@@ -139,7 +139,7 @@ fn end_running<L: Ledger>(
     out: &mut Lines,
     steps: &mut Steps<L>,
 ) {
-    kernel.facts();
+    kernel.know_kernel();
     let Some(thread) = kernel.running(CORE) else {
         assert!(rt; false, "nobody runs");
         return;
@@ -214,7 +214,7 @@ fn opened(rt: &impl Abort, alloc: Global, text: &[u8]) -> Result<Kernel, Fail> {
 }
 
 fn look_at_opening(rt: &impl Abort, kernel: &Kernel) {
-    assert!(rt; kernel.is_quiet() && !kernel.all_idle());
+    assert!(rt; kernel.nothing_armed() && !kernel.all_idle());
     assert_eq!(rt; kernel.tick(), 4_294_967_295);
     assert!(rt; kernel.run_mode() == RunMode::Normal && kernel.mode() == Sleep::Light);
     assert_eq!(rt; kernel.votes(Sleep::Deep), 0);

@@ -6,7 +6,7 @@ use Rattle.kernel_step.proofs.engine.core_step.Goals as goal
 pub returns-then-switch-clause-gives : goal.returns-then-switch-clause-gives
 returns-then-switch-clause-gives g c =
     let took = c.if-switch.ensures in
-    switch-gives _ _ _ _ _ c.facts.ensures.alone took.answer took.state c.requires.empty took.lines
+    switch-gives _ _ _ _ _ c.know_kernel.ensures.alone took.answer took.state c.requires.empty took.lines
 
 pub go_on-requires-clause-runs : goal.go_on-requires-clause-runs
 go_on-requires-clause-runs g c =
@@ -25,9 +25,9 @@ returns-in-Some-clause-gives g c =
     let runs = sym c.in-Some.ensures in
     let took = c.if-switch.ensures in
     let same = still-state c.args.kernel.now.state c.switch.new.self.state took.answer took.state in
-    goes-gives _ _ c.args.kernel.now.state c.switch.new.self.state c.unmark.new.self.state _ _ c.in-Some.t c.facts.ensures.alone same (c.unmark.ensures.state c.in-Some.t runs) (c.unmark.ensures.board ∙ took.board) took.answer (sym (ap (λ (s : State). running_on s 0) same) ∙ runs) c.go_on.ensures.state c.go_on.ensures.lines
+    goes-gives _ _ c.args.kernel.now.state c.switch.new.self.state c.unmark.new.self.state _ _ c.in-Some.t c.know_kernel.ensures.alone same (c.unmark.ensures.state c.in-Some.t runs) (c.unmark.ensures.board ∙ took.board) took.answer (sym (ap (λ (s : State). running_on s 0) same) ∙ runs) c.go_on.ensures.state c.go_on.ensures.lines
 
 pub returns-in-None-clause-gives : goal.returns-in-None-clause-gives
 returns-in-None-clause-gives g c =
     let took = c.if-switch.ensures in
-    rests-gives _ c.args.kernel.now.state c.switch.new.self.state _ _ c.requires.built.mode c.facts.ensures.alone took.answer (still-state c.args.kernel.now.state c.switch.new.self.state took.answer took.state) (still-lines c.args.kernel.now.state _ _ took.answer c.requires.empty took.lines) (sym c.in-None.ensures) c.at_rest.ensures
+    rests-gives _ c.args.kernel.now.state c.switch.new.self.state _ _ c.requires.built.mode c.know_kernel.ensures.alone took.answer (still-state c.args.kernel.now.state c.switch.new.self.state took.answer took.state) (still-lines c.args.kernel.now.state _ _ took.answer c.requires.empty took.lines) (sym c.in-None.ensures) c.at_rest.ensures

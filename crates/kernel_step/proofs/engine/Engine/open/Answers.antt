@@ -3,4 +3,4 @@ use Rattle.kernel_step.proofs.StepLemmas.{here}
 use Rattle.kernel_step.proofs.engine.Engine.open.Goals as goal
 
 pub returns-clause-state : goal.returns-clause-state
-returns-clause-state c = here _ refl c.facts.ensures.alone.halt ∙ c.in_ok-kernel.ensures.state
+returns-clause-state c = here _ refl c.know_kernel.ensures.alone.halt ∙ c.in_ok-kernel.ensures.state

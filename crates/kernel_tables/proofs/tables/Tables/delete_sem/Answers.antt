@@ -31,7 +31,7 @@ invariant_of-self c =
     let l = c.self.inside.lists in
     let w = c.wake_all.ensures in
     let is : number_of l.objects.sem.objects c.args.name.now ≡ Some c.in-Some.no = sym c.find.ensures ∙ c.in-Some.is in
-    tied-removed c.wake_all.new.rows c.wake_all.new.lists _ c.args.name.now c.in-Some.no w.tied (ap (λ (a : AllObjects). number_of a.sem.objects c.args.name.now) w.shown.objects ∙ is) w.empty
+    tied-removed c.wake_all.new.threads c.wake_all.new.lists _ c.args.name.now c.in-Some.no w.tied (ap (λ (a : AllObjects). number_of a.sem.objects c.args.name.now) w.shown.objects ∙ is) w.empty
     c.remove.ensures c.count.ensures.sound refl refl
 
 pub returns-clause-answer : goal.returns-clause-answer
@@ -44,14 +44,14 @@ pub returns-clause-woken : goal.returns-clause-woken
 returns-clause-woken c =
     let l = c.self.inside.lists in
     let is : number_of l.objects.sem.objects c.args.name.now ≡ Some c.in-Some.no = sym c.find.ensures ∙ c.in-Some.is in
-    rw (← c.self.view_is) (λ sem found. woken-seen c.self.inside.rows l c.args.name.now c.in-Some.no c.wake_all.new.woken sem c.self.invariant is c.wake_all.ensures.woken found)
+    rw (← c.self.view_is) (λ sem found. woken-seen c.self.inside.threads l c.args.name.now c.in-Some.no c.wake_all.new.woken sem c.self.invariant is c.wake_all.ensures.woken found)
 
 pub returns-clause-state : goal.returns-clause-state
 returns-clause-state c =
     let l = c.self.inside.lists in
     let w = c.wake_all.ensures in
     let is : number_of l.objects.sem.objects c.args.name.now ≡ Some c.in-Some.no = sym c.find.ensures ∙ c.in-Some.is in
-    rw (← c.self.view_is) (removed-seen c.self.inside.rows c.wake_all.new.rows l c.wake_all.new.lists c.remove.new.self c.args.name.now c.in-Some.no c.wake_all.new.woken (c.self.invariant.lists.sound WaitList.Sem) is w.rows w.shown c.remove.ensures)
+    rw (← c.self.view_is) (removed-seen c.self.inside.threads c.wake_all.new.threads l c.wake_all.new.lists c.remove.new.self c.args.name.now c.in-Some.no c.wake_all.new.woken (c.self.invariant.lists.sound WaitList.Sem) is w.threads w.shown c.remove.ensures)
 
 pub returns-clause-few : goal.returns-clause-few
 returns-clause-few c = rw (← c.self.view_is) c.wake_all.ensures.few

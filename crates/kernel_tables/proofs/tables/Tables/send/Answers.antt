@@ -40,18 +40,18 @@ pub index_mut-requires : goal.index_mut-requires
 index_mut-requires c =
     let l = c.self.inside.lists in
     let number : number_of l.objects.event.objects c.args.name.now ≡ Some c.no.inside.0 = sym c.find.ensures ∙ c.in-Some.is ∙ ap Some (sym c.no.view_is) in
-    omega (arith, event-below c.self.inside.rows l c.args.name.now c.no.inside.0 c.self.invariant number, l.events.ok.0)
+    omega (arith, event-below c.self.inside.threads l c.args.name.now c.no.inside.0 c.self.invariant number, l.events.ok.0)
 
 pub send-requires : goal.send-requires
 send-requires c =
     let l = c.self.inside.lists in
     let number : number_of l.objects.event.objects c.args.name.now ≡ Some c.no.inside.0 = sym c.find.ensures ∙ c.in-Some.is ∙ ap Some (sym c.no.view_is) in
-    let there : c.no.inside.0 < length l.events.items = event-below c.self.inside.rows l c.args.name.now c.no.inside.0 c.self.invariant number in
+    let there : c.no.inside.0 < length l.events.items = event-below c.self.inside.threads l c.args.name.now c.no.inside.0 c.self.invariant number in
     let read : c.index_mut.result.now ≡ event_at l.events.items c.no.inside.0 = get_or_read l.events.items _ _ there c.index_mut.ensures.value no_event in
     omega (
       arith,
       ap (λ (e : Flagged). length e.waiters.rows) read,
-      event-wide c.self.inside.rows l c.no.inside.0 c.self.invariant there,
+      event-wide c.self.inside.threads l c.no.inside.0 c.self.invariant there,
       c.len.ensures.len,
       c.len.ensures.few,
     )
@@ -63,32 +63,32 @@ pub invariant_of-self : goal.invariant_of-self
 invariant_of-self c =
     let l = c.self.inside.lists in
     let number : number_of l.objects.event.objects c.args.name.now ≡ Some c.no.inside.0 = sym c.find.ensures ∙ c.in-Some.is ∙ ap Some (sym c.no.view_is) in
-    let there : c.no.inside.0 < length l.events.items = event-below c.self.inside.rows l c.args.name.now c.no.inside.0 c.self.invariant number in
+    let there : c.no.inside.0 < length l.events.items = event-below c.self.inside.threads l c.args.name.now c.no.inside.0 c.self.invariant number in
     let read : c.index_mut.result.now ≡ event_at l.events.items c.no.inside.0 = get_or_read l.events.items _ _ there c.index_mut.ensures.value no_event in
     let woken : c.send.new.self ≡ woken_by (bit_or (event_at l.events.items c.no.inside.0).flags c.args.mask) (wanting (event_at l.events.items c.no.inside.0)) =
     c.send.ensures.woken ∙ ap (λ (e : Flagged). woken_by (bit_or e.flags c.args.mask) (wanting e)) read in
     let event_is : c.send.new.event ≡ sent (event_at l.events.items c.no.inside.0) c.args.mask = c.send.ensures.event ∙ ap (λ (e : Flagged). sent e c.args.mask) read in
-    let rows : c.loop-i.self-inside.rows ≡ all_given c.self.inside.rows (woken_by (bit_or (event_at l.events.items c.no.inside.0).flags c.args.mask) (wanting (event_at l.events.items c.no.inside.0))) =
-    giving-end c.self.inside.rows c.loop-i.self-inside.rows c.send.new.self c.loop-i.i c.loop-i.invariant.giving (omega (arith, c.loop-i-test.false, c.len-i-end.ensures)) ∙ ap (all_given c.self.inside.rows) woken in
-    tied-sent c.self.inside.rows l c.no.inside.0 c.self.invariant there c.args.mask c.loop-i.self-inside.rows c.loop-i.self-inside.lists rows (ap (λ (x : Lists). x.objects) c.loop-i.invariant.lists) (ap (λ (x : Lists). x.sems.items) c.loop-i.invariant.lists)
+    let rows : c.loop-i.self-inside.threads ≡ all_given c.self.inside.threads (woken_by (bit_or (event_at l.events.items c.no.inside.0).flags c.args.mask) (wanting (event_at l.events.items c.no.inside.0))) =
+    giving-end c.self.inside.threads c.loop-i.self-inside.threads c.send.new.self c.loop-i.i c.loop-i.invariant.giving (omega (arith, c.loop-i-test.false, c.len-i-end.ensures)) ∙ ap (all_given c.self.inside.threads) woken in
+    tied-sent c.self.inside.threads l c.no.inside.0 c.self.invariant there c.args.mask c.loop-i.self-inside.threads c.loop-i.self-inside.lists rows (ap (λ (x : Lists). x.objects) c.loop-i.invariant.lists) (ap (λ (x : Lists). x.sems.items) c.loop-i.invariant.lists)
     (ap (λ (x : Lists). x.events.items) c.loop-i.invariant.lists ∙ ap (slice_set l.events.items c.no.inside.0) event_is)
 
 pub give-requires : goal.give-requires
 give-requires c =
     let l = c.self.inside.lists in
     let number : number_of l.objects.event.objects c.args.name.now ≡ Some c.no.inside.0 = sym c.find.ensures ∙ c.in-Some.is ∙ ap Some (sym c.no.view_is) in
-    let there : c.no.inside.0 < length l.events.items = event-below c.self.inside.rows l c.args.name.now c.no.inside.0 c.self.invariant number in
+    let there : c.no.inside.0 < length l.events.items = event-below c.self.inside.threads l c.args.name.now c.no.inside.0 c.self.invariant number in
     let read : c.index_mut.result.now ≡ event_at l.events.items c.no.inside.0 = get_or_read l.events.items _ _ there c.index_mut.ensures.value no_event in
     let woken : c.send.new.self ≡ woken_by (bit_or (event_at l.events.items c.no.inside.0).flags c.args.mask) (wanting (event_at l.events.items c.no.inside.0)) =
     c.send.ensures.woken ∙ ap (λ (e : Flagged). woken_by (bit_or e.flags c.args.mask) (wanting e)) read in
     let p = calls_in l.objects WaitList.Event c.no.inside.0 in
-    let each = sent-each c.self.inside.rows l c.no.inside.0 c.self.invariant there (bit_or (event_at l.events.items c.no.inside.0).flags c.args.mask) in
+    let each = sent-each c.self.inside.threads l c.no.inside.0 c.self.invariant there (bit_or (event_at l.events.items c.no.inside.0).flags c.args.mask) in
     let at : slice_get (woken_by (bit_or (event_at l.events.items c.no.inside.0).flags c.args.mask) (wanting (event_at l.events.items c.no.inside.0))) c.loop-i.i ≡ Some c.at-t.result = ap (λ (ws : List (ℕ × ℕ)). slice_get ws c.loop-i.i) (sym woken) ∙ c.at-t.ensures in
-    omega (arith, (each-at (InLine c.self.inside.rows p) (λ (w : ℕ × ℕ). w.0) _ c.loop-i.i c.at-t.result each at).there, c.loop-i.invariant.giving.len)
+    omega (arith, (each-at (InLine c.self.inside.threads p) (λ (w : ℕ × ℕ). w.0) _ c.loop-i.i c.at-t.result each at).there, c.loop-i.invariant.giving.len)
 
 pub loop-i-preserved : goal.loop-i-preserved
 loop-i-preserved c = record {
-  giving = giving-more c.self.inside.rows c.loop-i.self-inside.rows c.give.new.self c.send.new.self c.loop-i.i c.at-t.result c.loop-i.invariant.giving c.at-t.ensures c.give.ensures;
+  giving = giving-more c.self.inside.threads c.loop-i.self-inside.threads c.give.new.self c.send.new.self c.loop-i.i c.at-t.result c.loop-i.invariant.giving c.at-t.ensures c.give.ensures;
   lists = c.loop-i.invariant.lists;
 }
 
@@ -102,35 +102,35 @@ pub returns-clause-woken : goal.returns-clause-woken
 returns-clause-woken c =
     let l = c.self.inside.lists in
     let number : number_of l.objects.event.objects c.args.name.now ≡ Some c.no.inside.0 = sym c.find.ensures ∙ c.in-Some.is ∙ ap Some (sym c.no.view_is) in
-    let there : c.no.inside.0 < length l.events.items = event-below c.self.inside.rows l c.args.name.now c.no.inside.0 c.self.invariant number in
+    let there : c.no.inside.0 < length l.events.items = event-below c.self.inside.threads l c.args.name.now c.no.inside.0 c.self.invariant number in
     let read : c.index_mut.result.now ≡ event_at l.events.items c.no.inside.0 = get_or_read l.events.items _ _ there c.index_mut.ensures.value no_event in
     let woken : c.send.new.self ≡ woken_by (bit_or (event_at l.events.items c.no.inside.0).flags c.args.mask) (wanting (event_at l.events.items c.no.inside.0)) =
     c.send.ensures.woken ∙ ap (λ (e : Flagged). woken_by (bit_or e.flags c.args.mask) (wanting e)) read in
-    rw (← c.self.view_is) (λ event found. woken ∙ sent-woken c.self.inside.rows l c.no.inside.0 c.self.invariant there c.args.name.now c.args.mask event number found)
+    rw (← c.self.view_is) (λ event found. woken ∙ sent-woken c.self.inside.threads l c.no.inside.0 c.self.invariant there c.args.name.now c.args.mask event number found)
 
 pub returns-clause-state : goal.returns-clause-state
 returns-clause-state c =
     let l = c.self.inside.lists in
     let number : number_of l.objects.event.objects c.args.name.now ≡ Some c.no.inside.0 = sym c.find.ensures ∙ c.in-Some.is ∙ ap Some (sym c.no.view_is) in
-    let there : c.no.inside.0 < length l.events.items = event-below c.self.inside.rows l c.args.name.now c.no.inside.0 c.self.invariant number in
+    let there : c.no.inside.0 < length l.events.items = event-below c.self.inside.threads l c.args.name.now c.no.inside.0 c.self.invariant number in
     let read : c.index_mut.result.now ≡ event_at l.events.items c.no.inside.0 = get_or_read l.events.items _ _ there c.index_mut.ensures.value no_event in
     let woken : c.send.new.self ≡ woken_by (bit_or (event_at l.events.items c.no.inside.0).flags c.args.mask) (wanting (event_at l.events.items c.no.inside.0)) =
     c.send.ensures.woken ∙ ap (λ (e : Flagged). woken_by (bit_or e.flags c.args.mask) (wanting e)) read in
     let event_is : c.send.new.event ≡ sent (event_at l.events.items c.no.inside.0) c.args.mask = c.send.ensures.event ∙ ap (λ (e : Flagged). sent e c.args.mask) read in
-    let rows : c.loop-i.self-inside.rows ≡ all_given c.self.inside.rows (woken_by (bit_or (event_at l.events.items c.no.inside.0).flags c.args.mask) (wanting (event_at l.events.items c.no.inside.0))) =
-    giving-end c.self.inside.rows c.loop-i.self-inside.rows c.send.new.self c.loop-i.i c.loop-i.invariant.giving (omega (arith, c.loop-i-test.false, c.len-i-end.ensures)) ∙ ap (all_given c.self.inside.rows) woken in
+    let rows : c.loop-i.self-inside.threads ≡ all_given c.self.inside.threads (woken_by (bit_or (event_at l.events.items c.no.inside.0).flags c.args.mask) (wanting (event_at l.events.items c.no.inside.0))) =
+    giving-end c.self.inside.threads c.loop-i.self-inside.threads c.send.new.self c.loop-i.i c.loop-i.invariant.giving (omega (arith, c.loop-i-test.false, c.len-i-end.ensures)) ∙ ap (all_given c.self.inside.threads) woken in
     let seen : List Thread → Flagged → Tabled = λ all f. record (tabled all l) { events = map (plain_event (slice_set l.events.items c.no.inside.0 f)) l.objects.event.objects } in
-    let now : tabled c.loop-i.self-inside.rows c.loop-i.self-inside.lists ≡ seen _ (sent (event_at l.events.items c.no.inside.0) c.args.mask) =
-    ap (tabled c.loop-i.self-inside.rows) c.loop-i.invariant.lists ∙ ap (λ all. seen all c.send.new.event) rows ∙ ap (seen _) event_is in
-    rw (← c.self.view_is) (λ event found. now ∙ sent-state c.self.inside.rows l c.no.inside.0 c.self.invariant there c.args.name.now c.args.mask event number found)
+    let now : tabled c.loop-i.self-inside.threads c.loop-i.self-inside.lists ≡ seen _ (sent (event_at l.events.items c.no.inside.0) c.args.mask) =
+    ap (tabled c.loop-i.self-inside.threads) c.loop-i.invariant.lists ∙ ap (λ all. seen all c.send.new.event) rows ∙ ap (seen _) event_is in
+    rw (← c.self.view_is) (λ event found. now ∙ sent-state c.self.inside.threads l c.no.inside.0 c.self.invariant there c.args.name.now c.args.mask event number found)
 
 pub returns-clause-few : goal.returns-clause-few
 returns-clause-few c =
     let l = c.self.inside.lists in
     let number : number_of l.objects.event.objects c.args.name.now ≡ Some c.no.inside.0 = sym c.find.ensures ∙ c.in-Some.is ∙ ap Some (sym c.no.view_is) in
-    let there : c.no.inside.0 < length l.events.items = event-below c.self.inside.rows l c.args.name.now c.no.inside.0 c.self.invariant number in
+    let there : c.no.inside.0 < length l.events.items = event-below c.self.inside.threads l c.args.name.now c.no.inside.0 c.self.invariant number in
     let read : c.index_mut.result.now ≡ event_at l.events.items c.no.inside.0 = get_or_read l.events.items _ _ there c.index_mut.ensures.value no_event in
     let woken : c.send.new.self ≡ woken_by (bit_or (event_at l.events.items c.no.inside.0).flags c.args.mask) (wanting (event_at l.events.items c.no.inside.0)) =
     c.send.ensures.woken ∙ ap (λ (e : Flagged). woken_by (bit_or e.flags c.args.mask) (wanting e)) read in
-    let few = sent-few c.self.inside.rows l c.no.inside.0 c.self.invariant there (bit_or (event_at l.events.items c.no.inside.0).flags c.args.mask) in
+    let few = sent-few c.self.inside.threads l c.no.inside.0 c.self.invariant there (bit_or (event_at l.events.items c.no.inside.0).flags c.args.mask) in
     rw (← c.self.view_is) (λ event found. omega (arith, ap length woken, few))

@@ -4,6 +4,6 @@ use Rattle.kernel_tables.proofs.tables.Tables.send.Given as goal
 
 abbrev pub invariant-loop-i : goal.invariant-loop-i
 invariant-loop-i l = record {
-  giving : IsGiving l.initial.self-inside.rows l.self-inside.rows l.woken l.i;
+  giving : IsGiving l.initial.self-inside.threads l.self-inside.threads l.woken l.i;
   lists : l.self-inside.lists ≡ l.initial.self-inside.lists;
 }

@@ -6,5 +6,5 @@ use Rattle.kernel_tables.proofs.tables.Tables.set_vars.Goals as goal
 
 pub invariant_of-self : goal.invariant_of-self
 invariant_of-self c =
-    let there : c.args.t < length c.self.inside.rows = subst (λ (k : Tabled). c.args.t < length k.threads) (sym c.self.view_is) c.requires in
-    rw c.set_vars.ensures (stage-kept c.self.inside.rows c.self.inside.lists c.args.t (with_vars c.args.vars (row_at c.self.inside.rows c.args.t)) c.self.invariant there refl refl)
+    let there : c.args.t < length c.self.inside.threads = subst (λ (k : Tabled). c.args.t < length k.threads) (sym c.self.view_is) c.requires in
+    rw c.set_vars.ensures (stage-kept c.self.inside.threads c.self.inside.lists c.args.t (with_vars c.args.vars (row_at c.self.inside.threads c.args.t)) c.self.invariant there refl refl)

@@ -22,12 +22,12 @@ returns-in_err-no-clause-state c =
 pub index_mut-requires : goal.index_mut-requires
 index_mut-requires c =
     let is : number_of c.self.inside.lists.objects.sem.objects c.args.name.now ≡ Some c.no.inside.0 = sym c.find.ensures ∙ c.in_ok-no.was ∙ ap (λ n. Some n) (sym c.no.view_is) in
-    omega (arith, slot-there c.self.inside.rows c.self.inside.lists c.args.name.now c.no.inside.0 c.self.invariant is)
+    omega (arith, slot-there c.self.inside.threads c.self.inside.lists c.args.name.now c.no.inside.0 c.self.invariant is)
 
 pub returns-clause-answer : goal.returns-clause-answer
 returns-clause-answer c =
     let is : number_of c.self.inside.lists.objects.sem.objects c.args.name.now ≡ Some c.no.inside.0 = sym c.find.ensures ∙ c.in_ok-no.was ∙ ap (λ n. Some n) (sym c.no.view_is) in
-    let there = slot-there c.self.inside.rows c.self.inside.lists c.args.name.now c.no.inside.0 c.self.invariant is in
+    let there = slot-there c.self.inside.threads c.self.inside.lists c.args.name.now c.no.inside.0 c.self.invariant is in
     rw (← c.self.view_is) (ap (λ (b : Bool). Some b) c.try_take.ensures.exactly
     ∙ ap (λ (x : Counted). Some (nat_lt 0 x.value)) (slot-is c.self.inside.lists.sems.items c.no.inside.0 c.index_mut.result.now there c.index_mut.ensures.value)
     ∙ ap (option_map (λ (sem : PlainSem). nat_lt 0 sem.value)) (sym (seen-some c.self.inside.lists.sems.items c.self.inside.lists.objects.sem.objects c.args.name.now c.no.inside.0 is)))
@@ -35,10 +35,10 @@ returns-clause-answer c =
 pub returns-clause-state : goal.returns-clause-state
 returns-clause-state c =
     let is : number_of c.self.inside.lists.objects.sem.objects c.args.name.now ≡ Some c.no.inside.0 = sym c.find.ensures ∙ c.in_ok-no.was ∙ ap (λ n. Some n) (sym c.no.view_is) in
-    let there = slot-there c.self.inside.rows c.self.inside.lists c.args.name.now c.no.inside.0 c.self.invariant is in
+    let there = slot-there c.self.inside.threads c.self.inside.lists c.args.name.now c.no.inside.0 c.self.invariant is in
     let at = slot-is c.self.inside.lists.sems.items c.no.inside.0 c.index_mut.result.now there c.index_mut.ensures.value in
     rw (← c.self.view_is) (λ k. record {
-      threads = c.self.inside.rows;
+      threads = c.self.inside.threads;
       sems = take-seen c.self.inside.lists.objects.sem c.self.inside.lists.sems.items c.args.name.now c.no.inside.0 c.try_take.result c.index_mut.result.now c.try_take.new.self (c.self.invariant.lists.sound WaitList.Sem) there is at c.try_take.ensures.exactly c.try_take.ensures.taken c.try_take.ensures.empty k;
       events = map (plain_event c.self.inside.lists.events.items) c.self.inside.lists.objects.event.objects;
       sem_limit = c.self.inside.lists.objects.sem.limit;
@@ -49,6 +49,6 @@ pub invariant_of-self : goal.invariant_of-self
 invariant_of-self c =
     let l = c.self.inside.lists in
     let is : number_of l.objects.sem.objects c.args.name.now ≡ Some c.no.inside.0 = sym c.find.ensures ∙ c.in_ok-no.was ∙ ap (λ n. Some n) (sym c.no.view_is) in
-    let there = slot-there c.self.inside.rows l c.args.name.now c.no.inside.0 c.self.invariant is in
+    let there = slot-there c.self.inside.threads l c.args.name.now c.no.inside.0 c.self.invariant is in
     let at = slot-is l.sems.items c.no.inside.0 c.index_mut.result.now there c.index_mut.ensures.value in
-    lists-kept c.self.inside.rows l _ c.self.invariant refl (taken-keeps l _ c.no.inside.0 c.try_take.result c.index_mut.result.now c.try_take.new.self at c.try_take.ensures.taken c.try_take.ensures.empty refl refl)
+    lists-kept c.self.inside.threads l _ c.self.invariant refl (taken-keeps l _ c.no.inside.0 c.try_take.result c.index_mut.result.now c.try_take.new.self at c.try_take.ensures.taken c.try_take.ensures.empty refl refl)

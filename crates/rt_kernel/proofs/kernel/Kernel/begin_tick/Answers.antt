@@ -12,5 +12,5 @@ pub invariant_of-self : goal.invariant_of-self
 invariant_of-self c = record {
   built = c.self.invariant.built;
   limits = c.begin_tick.ensures.limits ∙ c.self.invariant.limits;
-  kept = subst (λ (s : State). Kept (frame_of c.self.inside.board s) s) (sym c.begin_tick.ensures.state) (begun-kept c.self.inside.board (state_of c.self.inside.records) (ap (λ (k : KernelSeen). due k.state) c.self.view_is ∙ c.requires.none) (subst (λ (k : KernelSeen). k.state.moment < 1099511627775) (sym c.self.view_is) c.requires.moment) c.self.invariant.kept);
+  kept = subst (λ (s : State). Kept (frame_of c.self.inside.board s) s) (sym c.begin_tick.ensures.state) (begun-kept c.self.inside.board (state_of c.self.inside.state) (ap (λ (k : KernelSeen). due k.state) c.self.view_is ∙ c.requires.none) (subst (λ (k : KernelSeen). k.state.moment < 1099511627775) (sym c.self.view_is) c.requires.moment) c.self.invariant.kept);
 }

@@ -13,7 +13,7 @@ use Rattle.rt_kernel.proofs.kernel.Kernel.close.Goals as goal
 
 pub invariant_of-self : goal.invariant_of-self
 invariant_of-self g c =
-    let s : State = state_of c.self.inside.records in
+    let s : State = state_of c.self.inside.state in
     record {
       built = c.self.invariant.built;
       limits = c.close.ensures.limits ∙ c.self.invariant.limits;
@@ -23,10 +23,10 @@ invariant_of-self g c =
 
 pub returns-clause-state : goal.returns-clause-state
 returns-clause-state g c =
-    let s : State = state_of c.self.inside.records in
+    let s : State = state_of c.self.inside.state in
     c.close.ensures.state ∙ sym (ap (λ (e : Effect). e.state) (close_settles c.self.inside.board s c.args.thread refl)) ∙ ap (λ (k : KernelSeen). (settled_effect k.board k.state (close_effect c.args.thread k.state)).state) c.self.view_is
 
 pub returns-clause-lines : goal.returns-clause-lines
 returns-clause-lines g c =
-    let s : State = state_of c.self.inside.records in
+    let s : State = state_of c.self.inside.state in
     c.close.ensures.lines ∙ sym (ap (λ (e : Effect). c.args.out.now.items ++ e.lines) (close_settles c.self.inside.board s c.args.thread refl)) ∙ ap (λ (k : KernelSeen). c.args.out.now.items ++ (settled_effect k.board k.state (close_effect c.args.thread k.state)).lines) c.self.view_is

@@ -14,14 +14,14 @@ use Rattle.rt_kernel.proofs.Quiet.{fire_settles}
 use Rattle.rt_kernel.proofs.kernel.Kernel.fire.Given.{Over}
 use Rattle.rt_kernel.proofs.kernel.Kernel.fire.Goals as goal
 
-fired : (g : Over) (c : goal.After-fire g) → state_of c.fire.new.self ≡ (settled_effect c.self.inside.board (state_of c.self.inside.records) (timeout_effect c.args.no (state_of c.self.inside.records))).state
+fired : (g : Over) (c : goal.After-fire g) → state_of c.fire.new.self ≡ (settled_effect c.self.inside.board (state_of c.self.inside.state) (timeout_effect c.args.no (state_of c.self.inside.state))).state
 fired g c =
-    let s : State = state_of c.self.inside.records in
+    let s : State = state_of c.self.inside.state in
     c.fire.ensures.state ∙ ap (λ n. (timeout_effect n s).state) c.no.view_is ∙ sym (ap (λ (e : Effect). e.state) (fire_settles c.self.inside.board s c.args.no refl))
 
 pub invariant_of-self : goal.invariant_of-self
 invariant_of-self g c =
-    let s : State = state_of c.self.inside.records in
+    let s : State = state_of c.self.inside.state in
     record {
       built = c.self.invariant.built;
       limits = c.fire.ensures.limits ∙ c.self.invariant.limits;
@@ -34,12 +34,12 @@ returns-clause-state g c = fired g c ∙ ap (λ (k : KernelSeen). (settled_effec
 
 pub returns-clause-lines : goal.returns-clause-lines
 returns-clause-lines g c =
-    let s : State = state_of c.self.inside.records in
+    let s : State = state_of c.self.inside.state in
     c.fire.ensures.lines ∙ ap (λ n. c.args.out.now.items ++ (timeout_effect n s).lines) c.no.view_is
     ∙ sym (ap (λ (e : Effect). c.args.out.now.items ++ e.lines) (fire_settles c.self.inside.board s c.args.no refl))
     ∙ ap (λ (k : KernelSeen). c.args.out.now.items ++ (settled_effect k.board k.state (timeout_effect c.args.no k.state)).lines) c.self.view_is
 
 pub returns-clause-due : goal.returns-clause-due
 returns-clause-due g c =
-    let s : State = state_of c.self.inside.records in
+    let s : State = state_of c.self.inside.state in
     subst (λ (u : State). length (due u) ≤ length (due c.args.self.now.state)) (sym (c.fire.ensures.state)) (subst (λ (k : KernelSeen). length (due (timeout_effect c.no.inside.0 s).state) ≤ length (due k.state)) c.self.view_is (due-dropped s (OfThread c.no.inside.0)))

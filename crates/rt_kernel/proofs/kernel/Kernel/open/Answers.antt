@@ -4,7 +4,7 @@ use Rattle.rt_kernel.proofs.kernel.Kernel.open.Goals as goal
 
 pub invariant_of-result : goal.invariant_of-result
 invariant_of-result c = record {
-  built = c.built_facts.ensures;
-  limits = c.in_ok-records.ensures.limits;
-  kept = opened_kept c.args.board (state_of c.in_ok-records.records) c.built_facts.ensures c.in_ok-records.ensures.state;
+  built = c.know_built.ensures;
+  limits = c.in_ok-state.ensures.limits;
+  kept = opened_kept c.args.board (state_of c.in_ok-state.state) c.know_built.ensures c.in_ok-state.ensures.state;
 }

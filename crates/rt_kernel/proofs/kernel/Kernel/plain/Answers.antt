@@ -22,32 +22,32 @@ pub plain-requires-clause-short : goal.plain-requires-clause-short
 plain-requires-clause-short g c = subst (λ (script : List Stmt). length script ≤ 512) (sym c.script_of-script.ensures) (script-short c.self.inside.board c.name-name.result c.self.invariant.built)
 
 -- the statement of the thread that the core runs
-does : (g : Over) (c : goal.After-plain g) → DoesNext (record { board = c.self.inside.board; state = state_of c.self.inside.records }) c.in-Some.t c.args.core c.args.stmt.now
+does : (g : Over) (c : goal.After-plain g) → DoesNext (record { board = c.self.inside.board; state = state_of c.self.inside.state }) c.in-Some.t c.args.core c.args.stmt.now
 does g c =
-    let found : DoesNext (record { board = c.self.inside.board; state = state_of c.self.inside.records }) c.requires.next.0 c.args.core c.args.stmt.now = subst (λ (k : KernelSeen). DoesNext k c.requires.next.0 c.args.core c.args.stmt.now) (sym c.self.view_is) c.requires.next.1 in
-    subst (λ u. DoesNext (record { board = c.self.inside.board; state = state_of c.self.inside.records }) u c.args.core c.args.stmt.now) (some-same c.requires.next.0 c.in-Some.t c.self.inside.records.running (first_core c.self.inside.records.running c.args.core c.requires.next.0 found.runs).1 c.in-Some.is) found
+    let found : DoesNext (record { board = c.self.inside.board; state = state_of c.self.inside.state }) c.requires.next.0 c.args.core c.args.stmt.now = subst (λ (k : KernelSeen). DoesNext k c.requires.next.0 c.args.core c.args.stmt.now) (sym c.self.view_is) c.requires.next.1 in
+    subst (λ u. DoesNext (record { board = c.self.inside.board; state = state_of c.self.inside.state }) u c.args.core c.args.stmt.now) (some-same c.requires.next.0 c.in-Some.t c.self.inside.state.running (first_core c.self.inside.state.running c.args.core c.requires.next.0 found.runs).1 c.in-Some.is) found
 
-script : (g : Over) (c : goal.After-plain g) → c.script_of-script.result.now ≡ script_of c.self.inside.board (thread_at (state_of c.self.inside.records) c.in-Some.t).name
-script g c = c.script_of-script.ensures ∙ ap (script_of c.self.inside.board) (c.name-name.ensures ∙ ap (λ (threads : List Thread). (row_at threads c.in-Some.t).name) c.rows.ensures)
+script : (g : Over) (c : goal.After-plain g) → c.script_of-script.result.now ≡ script_of c.self.inside.board (thread_at (state_of c.self.inside.state) c.in-Some.t).name
+script g c = c.script_of-script.ensures ∙ ap (script_of c.self.inside.board) (c.name-name.ensures ∙ ap (λ (threads : List Thread). (row_at threads c.in-Some.t).name) c.threads.ensures)
 
-effect : (g : Over) (c : goal.After-plain g) → statement_effect c.self.inside.board c.in-Some.t c.args.core (state_of c.self.inside.records) ≡ plain_did c.script_of-script.result.now c.in-Some.t c.args.stmt.now (state_of c.self.inside.records)
+effect : (g : Over) (c : goal.After-plain g) → statement_effect c.self.inside.board c.in-Some.t c.args.core (state_of c.self.inside.state) ≡ plain_did c.script_of-script.result.now c.in-Some.t c.args.stmt.now (state_of c.self.inside.state)
 effect g c =
     let next = does g c in
-    plain_is c.self.inside.board (state_of c.self.inside.records) c.in-Some.t c.args.core c.args.stmt.now refl c.self.invariant.built.shell c.self.invariant.built.soft c.requires.plain next.again next.next
-    ∙ ap (λ (x : List Stmt). plain_did x c.in-Some.t c.args.stmt.now (state_of c.self.inside.records)) (sym (script g c))
+    plain_is c.self.inside.board (state_of c.self.inside.state) c.in-Some.t c.args.core c.args.stmt.now refl c.self.invariant.built.shell c.self.invariant.built.soft c.requires.plain next.again next.next
+    ∙ ap (λ (x : List Stmt). plain_did x c.in-Some.t c.args.stmt.now (state_of c.self.inside.state)) (sym (script g c))
 
-stated : (g : Over) (c : goal.After-plain g) → state_of c.plain.new.self ≡ (statement_effect c.self.inside.board c.in-Some.t c.args.core (state_of c.self.inside.records)).state
+stated : (g : Over) (c : goal.After-plain g) → state_of c.plain.new.self ≡ (statement_effect c.self.inside.board c.in-Some.t c.args.core (state_of c.self.inside.state)).state
 stated g c = c.plain.ensures.state ∙ sym (ap (λ (e : Effect). e.state) (effect g c))
 
 pub invariant_of-self : goal.invariant_of-self
 invariant_of-self g c = record {
   built = c.self.invariant.built;
   limits = c.plain.ensures.limits ∙ c.self.invariant.limits;
-  kept = subst (λ (u : State). Kept (frame_of c.self.inside.board u) u) (sym (stated g c)) (stated-kept c.self.inside.board (state_of c.self.inside.records) c.in-Some.t c.args.core c.self.invariant.built.proper (does g c).runs c.self.invariant.kept);
+  kept = subst (λ (u : State). Kept (frame_of c.self.inside.board u) u) (sym (stated g c)) (stated-kept c.self.inside.board (state_of c.self.inside.state) c.in-Some.t c.args.core c.self.invariant.built.proper (does g c).runs c.self.invariant.kept);
 }
 
 same : (g : Over) (c : goal.After-plain g) (t : ℕ) → running_on c.args.self.now.state c.args.core ≡ Some t → c.in-Some.t ≡ t
-same g c t runs = some-same c.in-Some.t t (running_on (state_of c.self.inside.records) c.args.core) (does g c).runs (ap (λ (k : KernelSeen). running_on k.state c.args.core) c.self.view_is ∙ runs)
+same g c t runs = some-same c.in-Some.t t (running_on (state_of c.self.inside.state) c.args.core) (does g c).runs (ap (λ (k : KernelSeen). running_on k.state c.args.core) c.self.view_is ∙ runs)
 
 pub returns-in-Some-clause-state : goal.returns-in-Some-clause-state
 returns-in-Some-clause-state g c t runs =

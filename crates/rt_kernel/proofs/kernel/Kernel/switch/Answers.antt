@@ -10,5 +10,5 @@ pub invariant_of-self : goal.invariant_of-self
 invariant_of-self g c = record {
   built = c.self.invariant.built;
   limits = c.switch.ensures.limits ∙ c.self.invariant.limits;
-  kept = subst (λ (s : State). Kept (frame_of c.self.inside.board s) s) (sym c.switch.ensures.state) (switched-kept c.self.inside.board (state_of c.self.inside.records) 0 (rw c.self.invariant.built.cores (omega arith)) c.self.invariant.kept);
+  kept = subst (λ (s : State). Kept (frame_of c.self.inside.board s) s) (sym c.switch.ensures.state) (switched-kept c.self.inside.board (state_of c.self.inside.state) 0 (rw c.self.invariant.built.cores (omega arith)) c.self.invariant.kept);
 }

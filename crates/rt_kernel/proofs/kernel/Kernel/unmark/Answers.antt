@@ -8,5 +8,5 @@ pub invariant_of-self : goal.invariant_of-self
 invariant_of-self c = record {
   built = c.self.invariant.built;
   limits = ap limits_of c.unmark.ensures ∙ c.self.invariant.limits;
-  kept = rw c.unmark.ensures (unmarked-kept c.self.inside.board (state_of c.self.inside.records) c.in-Some.t true c.self.invariant.kept);
+  kept = rw c.unmark.ensures (unmarked-kept c.self.inside.board (state_of c.self.inside.state) c.in-Some.t true c.self.invariant.kept);
 }

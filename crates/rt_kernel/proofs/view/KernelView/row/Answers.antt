@@ -10,17 +10,17 @@ use Rattle.rt_kernel.proofs.view.KernelView.row.Goals as goal
 
 pub returns-in-Thread : goal.returns-in-Thread
 returns-in-Thread c =
-    let s : State = state_of c.self.inside.records in
+    let s : State = state_of c.self.inside.state in
     ap (λ (k : KernelSeen). slice_get (rows k.board k.state c.args.class) c.args.place) (sym c.self.view_is)
     ∙ ap (λ class. slice_get (rows c.self.inside.board s class) c.args.place) c.in-Thread.is
     ∙ slice_get-map (thread_row s) (shown s.threads) c.args.place
-    ∙ ap (λ (threads : List Thread). option_map (thread_row s) (slice_get (shown threads) c.args.place)) (sym c.rows.ensures)
+    ∙ ap (λ (threads : List Thread). option_map (thread_row s) (slice_get (shown threads) c.args.place)) (sym c.threads.ensures)
     ∙ ap (option_map (thread_row s)) c.shown_at.ensures.is
     ∙ ap Some (sym c.thread_row.ensures)
 
 pub returns-in-Sem : goal.returns-in-Sem
 returns-in-Sem c =
-    let s : State = state_of c.self.inside.records in
+    let s : State = state_of c.self.inside.state in
     ap (λ (k : KernelSeen). slice_get (rows k.board k.state c.args.class) c.args.place) (sym c.self.view_is)
     ∙ ap (λ class. slice_get (rows c.self.inside.board s class) c.args.place) c.in-Sem.is
     ∙ sem_rows_at c.self.inside.board s c.args.place refl
@@ -28,7 +28,7 @@ returns-in-Sem c =
 
 pub returns-in-Event : goal.returns-in-Event
 returns-in-Event c =
-    let s : State = state_of c.self.inside.records in
+    let s : State = state_of c.self.inside.state in
     ap (λ (k : KernelSeen). slice_get (rows k.board k.state c.args.class) c.args.place) (sym c.self.view_is)
     ∙ ap (λ class. slice_get (rows c.self.inside.board s class) c.args.place) c.in-Event.is
     ∙ event_rows_at c.self.inside.board s c.args.place refl

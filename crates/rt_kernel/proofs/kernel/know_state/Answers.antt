@@ -1,0 +1,50 @@
+use Rattle.std.proofs.Common.{◌≡◌, ◌≤◌, ◌<◌, length, arith, Option, Some, None, ℕ, IfSome, refl}
+use Rattle.rt_plain.specs.kernel.State.{State, thread_at}
+use Rattle.rt_plain.specs.PlainBoard.{PlainBoard}
+use Rattle.rt_plain.specs.runs.Runs.{thread_count}
+use Rattle.rt_plain.proofs.kernel.TickCosts.{armed-few}
+use Rattle.rt_kernel.specs.Built.{IsBuilt}
+use Rattle.rt_kernel.specs.Inside.{frame_of}
+use Rattle.rt_kernel.specs.View.{state_of}
+use Rattle.rt_kernel.proofs.BuiltLemmas.{script-short}
+use Rattle.rt_kernel.proofs.KeptLemmas.{ready-few, ready-numbers, ready-once, running-there}
+use Rattle.rt_kernel.proofs.kernel.know_state.Goals as goal
+
+-- there are 256 threads at most
+counted : (b : PlainBoard) (n : ℕ) → IsBuilt b → n ≡ thread_count b → n ≤ 256
+counted b n built is = let none : thread_count b ≡ length b.threads = rw (built.shell, built.soft) (omega arith) in omega (arith, built.few, is, none)
+
+pub returns-clause-ready : goal.returns-clause-ready
+returns-clause-ready c =
+    let b = c.args.board.now in
+    let s : State = state_of c.args.state.now in
+    omega (arith, ready-few (frame_of b s) s c.requires.kept, counted b (length s.threads) c.requires.built c.requires.kept.count)
+
+pub returns-clause-armed : goal.returns-clause-armed
+returns-clause-armed c =
+    let b = c.args.board.now in
+    let s : State = state_of c.args.state.now in
+    omega (arith, armed-few (frame_of b s) s c.requires.kept, counted b (length s.threads) c.requires.built c.requires.kept.count)
+
+pub returns-clause-moment : goal.returns-clause-moment
+returns-clause-moment c = c.requires.kept.live c.requires.built.proper.until refl
+
+pub returns-clause-there : goal.returns-clause-there
+returns-clause-there c = ready-numbers (frame_of c.args.board.now (state_of c.args.state.now)) (state_of c.args.state.now) c.requires.kept
+
+pub returns-clause-once : goal.returns-clause-once
+returns-clause-once c = ready-once (frame_of c.args.board.now (state_of c.args.state.now)) (state_of c.args.state.now) c.requires.kept
+
+runs : (n : ℕ) (o : Option ℕ) → ((r : ℕ) → o ≡ Some r → r < n) → IfSome o (λ r. r < n)
+runs n None there = tt
+runs n (Some r) there = there r refl
+
+pub returns-clause-running : goal.returns-clause-running
+returns-clause-running c =
+    let s : State = state_of c.args.state.now in
+    runs (length s.threads) c.args.state.now.running (λ r is. (running-there (frame_of c.args.board.now s) s 0 r c.requires.kept is).0)
+
+pub returns-clause-next : goal.returns-clause-next
+returns-clause-next c r is =
+    let s : State = state_of c.args.state.now in
+    omega (arith, (running-there (frame_of c.args.board.now s) s 0 r c.requires.kept is).1, script-short c.args.board.now (thread_at s r).name c.requires.built)

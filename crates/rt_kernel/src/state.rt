@@ -1,0 +1,193 @@
+ghost use Rattle.std.specs.Prelude.{◌≡◌, ◌+◌, ◌<◌, ◌≤◌, ◌^◌, ◌++◌, ◌∷◌, [], length, Some, None, true, ◌==◌};
+ghost use Rattle.rt_plain.specs.declared.line.Line.TheVariants.{Wake as WakeLine};
+ghost use Rattle.rt_plain.specs.declared.line.Woke.TheVariants.{Code as WokeCode};
+ghost use Rattle.rt_plain.specs.kernel.State.{InCall};
+ghost use Rattle.rt_plain.specs.kernel.Effects.{name_of, without_core, waiting_state, active_state, wake_effect};
+ghost use Rattle.rt_plain.specs.kernel.ThreadCalls.{start_effect, suspended_state};
+ghost use Rattle.rt_plain.specs.kernel.Owners.{close_effect, withdrawn_state};
+ghost use Rattle.rt_kernel.specs.Followed.{followed};
+ghost use Rattle.rt_kernel.specs.Limits.{limits_of};
+ghost use Rattle.kernel_tables.specs.Tabled.{knows};
+ghost use Rattle.rt_kernel.specs.View.{state_of};
+
+use crate::armed::{Armed, ArmedRows};
+use kernel_tables::{Stage, Tables, ThreadList, WokenThreads};
+use rt_base::{Code, Name, ThreadNo};
+use rt_plain::{Call, Line, Lines, Woke};
+
+/// The records of the kernel. They stand for a plain state.
+#[derive(Drop)]
+pub struct State {
+    /// How many ticks have passed since opening.
+    pub moment: u64,
+    pub numbers: u64,
+    pub tables: Tables,
+    pub ready: ThreadList,
+    pub running: Option<ThreadNo>,
+    pub armed: ArmedRows,
+    pub waited: ThreadList,
+    pub woken: WokenThreads,
+}
+
+impl State {
+    // The name of a thread.
+    pub fn name_of(&self, t: ThreadNo) -> Name
+        requires { t < length self.now.tables.threads }
+        ensures { result ≡ name_of (state_of self.now) t }
+    {
+        self.tables.threads().name(t)
+    }
+
+    // The thread leaves the core.
+    pub fn leave_core(&mut self, t: ThreadNo)
+        ensures state { state_of self.new ≡ without_core (state_of self.old) t }
+        ensures tables { self.new.tables ≡ self.old.tables }
+        ensures ready { self.new.ready ≡ self.old.ready }
+        ensures armed { self.new.armed ≡ self.old.armed }
+        ensures numbers { self.new.numbers ≡ self.old.numbers }
+    {
+        if let Some(u) = self.running {
+            if t.0 == u.0 {
+                self.running = None;
+            }
+        }
+    }
+
+    // The thread is active again, without an armed row, at the end of the ready list.
+    pub fn activate(&mut self, t: ThreadNo)
+        requires there { t < length self.old.tables.threads }
+        requires room { length self.old.ready < 512 }
+        ensures state { state_of self.new ≡ active_state (state_of self.old) t }
+        ensures limits { limits_of self.new.tables ≡ limits_of self.old.tables }
+    {
+        self.tables.stand(t, Stage::Active);
+        self.enter_ready(t);
+    }
+
+    // The thread is without an armed row, at the end of the ready list.
+    fn enter_ready(&mut self, thread: ThreadNo)
+        requires room { length self.old.ready < 512 }
+        ensures state { state_of self.new ≡ followed (state_of self.old) thread }
+        ensures tables { self.new.tables ≡ self.old.tables }
+        ensures waited { self.new.waited ≡ self.old.waited }
+        ensures woken { self.new.woken ≡ self.old.woken }
+        ensures numbers { self.new.numbers ≡ self.old.numbers }
+        ensures ready { length self.new.ready ≡ length self.old.ready + 1 }
+    {
+        self.armed.remove(thread);
+        self.ready.push_last(thread);
+    }
+
+    // An initial thread becomes ready.
+    pub fn start(&mut self, t: ThreadNo, out: &mut Lines)
+        requires there { t < length self.old.tables.threads }
+        requires room { length self.old.ready < 512 }
+        requires lines { length out.old.items < out.old.room }
+        ensures state { state_of self.new ≡ (start_effect t (state_of self.old)).state }
+        ensures limits { limits_of self.new.tables ≡ limits_of self.old.tables }
+        ensures lines { out.new.items ≡ out.old.items ++ (start_effect t (state_of self.old)).lines }
+        ensures numbers { self.new.numbers ≡ self.old.numbers }
+        ensures few { length out.new.items ≤ length out.old.items + 1 }
+        ensures out_room { out.new.room ≡ out.old.room }
+    {
+        out.push(Line::Wake(self.tables.threads().name(t), Woke::Start));
+        self.activate(t);
+    }
+
+    // The thread wakes with a code.
+    pub fn wake(&mut self, t: ThreadNo, code: Code, out: &mut Lines)
+        requires there { t < length self.old.tables.threads }
+        requires room { length self.old.ready < 512 }
+        requires lines { length out.old.items < out.old.room }
+        ensures state { state_of self.new ≡ (wake_effect code t (state_of self.old)).state }
+        ensures limits { limits_of self.new.tables ≡ limits_of self.old.tables }
+        ensures lines { out.new.items ≡ out.old.items ++ (wake_effect code t (state_of self.old)).lines }
+        ensures numbers { self.new.numbers ≡ self.old.numbers }
+        ensures few { length out.new.items ≤ length out.old.items + 1 }
+        ensures out_room { out.new.room ≡ out.old.room }
+    {
+        out.push(Line::Wake(self.tables.threads().name(t), Woke::Code(code)));
+        self.tables.set_code(t, code);
+        self.activate(t);
+    }
+
+    // The tables have woken the thread: this is shown, and it is without an armed row, at the end of the ready list.
+    pub fn follow(&mut self, t: ThreadNo, code: Code, out: &mut Lines)
+        requires there { t < length self.old.tables.threads }
+        requires room { length self.old.ready < 512 }
+        requires lines { length out.old.items < out.old.room }
+        ensures state { state_of self.new ≡ followed (state_of self.old) t }
+        ensures lines { out.new.items ≡ out.old.items ++ WakeLine (name_of (state_of self.old) t) (WokeCode code) ∷ [] }
+        ensures tables { self.new.tables ≡ self.old.tables }
+        ensures waited { self.new.waited ≡ self.old.waited }
+        ensures woken { self.new.woken ≡ self.old.woken }
+        ensures numbers { self.new.numbers ≡ self.old.numbers }
+        ensures moment { self.new.moment ≡ self.old.moment }
+        ensures ready { length self.new.ready ≡ length self.old.ready + 1 }
+        ensures out_room { out.new.room ≡ out.old.room }
+    {
+        out.push(Line::Wake(self.tables.threads().name(t), Woke::Code(code)));
+        self.enter_ready(t);
+    }
+
+    // The thread waits in a call, until a moment if one is given.
+    pub fn wait(&mut self, t: ThreadNo, call: Call, due: Option<u64>)
+        requires there { t < length self.old.tables.threads }
+        requires room { length self.old.armed < 512 }
+        requires number { self.old.numbers + 2 < 2 ^ 64 }
+        requires known { knows self.old.tables call ≡ true }
+        ensures state { state_of self.new ≡ waiting_state (state_of self.old) t (InCall call) due }
+        ensures limits { limits_of self.new.tables ≡ limits_of self.old.tables }
+    {
+        self.leave_core(t);
+        self.tables.wait(t, call, self.numbers);
+        self.numbers += 1;
+        if let Some(due) = due {
+            let number = self.numbers;
+            self.armed.push(Armed {
+                due,
+                number,
+                thread: t,
+            });
+            self.numbers += 1;
+        }
+    }
+
+    // The thread leaves its core or the ready list and is suspended.
+    pub fn suspend(&mut self, t: ThreadNo)
+        requires { t < length self.old.tables.threads }
+        ensures state { state_of self.new ≡ suspended_state (state_of self.old) t }
+        ensures limits { limits_of self.new.tables ≡ limits_of self.old.tables }
+    {
+        self.tables.stand(t, Stage::Suspended);
+        self.ready.remove(t);
+        self.leave_core(t);
+    }
+
+    // The thread ends: it leaves its core, the ready list and its wait.
+    pub fn withdraw(&mut self, t: ThreadNo)
+        requires { t < length self.old.tables.threads }
+        ensures state { state_of self.new ≡ withdrawn_state (state_of self.old) t }
+        ensures limits { limits_of self.new.tables ≡ limits_of self.old.tables }
+    {
+        self.tables.close(t);
+        self.leave_core(t);
+        self.ready.remove(t);
+        self.armed.remove(t);
+    }
+
+    // The thread ends, which is shown.
+    pub fn close(&mut self, t: ThreadNo, out: &mut Lines)
+        requires there { t < length self.old.tables.threads }
+        requires lines { length out.old.items < out.old.room }
+        ensures state { state_of self.new ≡ (close_effect t (state_of self.old)).state }
+        ensures limits { limits_of self.new.tables ≡ limits_of self.old.tables }
+        ensures lines { out.new.items ≡ out.old.items ++ (close_effect t (state_of self.old)).lines }
+        ensures numbers { self.new.numbers ≡ self.old.numbers }
+        ensures few { length out.new.items ≤ length out.old.items + 1 }
+        ensures out_room { out.new.room ≡ out.old.room }
+    {
+        out.push(Line::Close(self.tables.threads().name(t)));
+        self.withdraw(t);
+    }
+}
