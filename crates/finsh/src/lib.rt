@@ -1,0 +1,9 @@
+//! The shell of the console: it gathers received bytes to lines, and prints what a line's command shows of a view.
+#![tactic(auto)]
+
+mod cells;
+mod columns;
+mod pieces;
+mod shell;
+
+pub use shell::{Command, Shell};
