@@ -14,7 +14,6 @@ zeros (suc k) behind =
     ∙ ap (λ xs. xs ++ behind) (replicate_more k 48)
     ∙ ap (λ j. replicate j 48 ++ behind) {x = k + 1} {y = suc k} (omega arith)
 
-
 abbrev spelled : ℕ → ℕ → List ℕ → List ℕ
 spelled m n behind = digits_onto m 16 false n behind
 
@@ -43,9 +42,9 @@ padded (suc k) zero n behind small le = absurd (omega arith)
 padded (suc k) (suc m) n behind small le = ⊎_elim
     (filled_last (suc k) (suc m) n behind)
     (λ p. padded k m (n / 16) (digit_glyph false (n % 16) ∷ behind) (omega arith) (omega arith)
-        ∙ ap (λ j. replicate (j - length (spelled (suc m) (n / 16) (digit_glyph false (n % 16) ∷ behind))) 48 ++ spelled (suc m) (n / 16) (digit_glyph false (n % 16) ∷ behind))
-            {x = suc k + length (digit_glyph false (n % 16) ∷ behind)} {y = suc (suc k) + length behind} (omega arith)
-        ∙ ap (filled (suc (suc k)) behind) (sym (spelled_more (suc m) n behind p)))
+    ∙ ap (λ j. replicate (j - length (spelled (suc m) (n / 16) (digit_glyph false (n % 16) ∷ behind))) 48 ++ spelled (suc m) (n / 16) (digit_glyph false (n % 16) ∷ behind))
+    {x = suc k + length (digit_glyph false (n % 16) ∷ behind)} {y = suc (suc k) + length behind} (omega arith)
+    ∙ ap (filled (suc (suc k)) behind) (sym (spelled_more (suc m) n behind p)))
     (eq-zero-or-pos (n / 16))
 
 pub eight : (n : ℕ) → n < 2 ^ 32 → hex_onto 8 n [] ≡ hex_eight n

@@ -1,3 +1,4 @@
 pub mod Lines
 pub mod Hex
 pub mod Short
+pub mod Joined

@@ -57,3 +57,18 @@ room_of (Cell.Number n) = 10
 abbrev pub hex_onto : ℕ → ℕ → List ℕ → List ℕ
 hex_onto zero n behind = behind
 hex_onto (suc k) n behind = hex_onto k (n / 16) (digit_glyph false (n % 16) ∷ behind)
+
+-- whether numbers are at most others, place by place
+abbrev pub fits : List ℕ → List ℕ → Bool
+fits rs [] = true
+fits [] (n ∷ ns) = false
+fits (r ∷ rs) (n ∷ ns) = nat_le n r && fits rs ns
+
+-- the most bytes of a title, a cell and a column of a table, by their place in the line
+abbrev pub rooms : List ℕ
+rooms = 8 ∷ 8 ∷ 10 ∷ 10 ∷ 7 ∷ 5 ∷ 5 ∷ []
+
+-- what stands before the cell at a place: a space, but before the first one
+abbrev pub separator : ℕ → List ℕ
+separator zero = []
+separator (suc place) = 32 ∷ []

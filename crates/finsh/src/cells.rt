@@ -257,7 +257,8 @@ fn know_cell(cell: &Cell)
         Cell::Byte(n) => know_byte(*n),
         Cell::Half(n) => know_half(*n),
         Cell::Number(n) => know_number(*n),
-        Cell::State(_) | Cell::Code(_) | Cell::Kind { .. } | Cell::Device { .. } | Cell::Mode(_) => {}
+        Cell::State(_) | Cell::Code(_) | Cell::Kind { .. } | Cell::Device { .. } | Cell::Mode(_) =>
+            {}
     }
 }
 

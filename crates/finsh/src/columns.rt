@@ -14,6 +14,24 @@ pub(crate) enum Column {
 
 use Column::{Left, Right};
 
+impl Column {
+    pub(crate) fn title(&self) -> &'static [u8]
+        ensures { result.now ≡ (column_of self.now).title }
+    {
+        match self {
+            Left(title, _) | Right(title, _) => title,
+        }
+    }
+
+    pub(crate) fn width(&self) -> usize
+        ensures { result ≡ (column_of self.now).width }
+    {
+        match self {
+            Left(_, width) | Right(_, width) => *width,
+        }
+    }
+}
+
 // The columns of a class's table.
 pub(crate) fn columns(class: Class) -> &'static [Column]
     ensures { map column_of result.now ≡ plain_columns class }

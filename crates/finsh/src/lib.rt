@@ -3,7 +3,10 @@
 
 mod cells;
 mod columns;
+mod commands;
 mod pieces;
+mod rows;
 mod shell;
+mod tables;
 
 pub use shell::{Command, Shell};
