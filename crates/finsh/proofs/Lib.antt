@@ -2,3 +2,4 @@ pub mod Lines
 pub mod Hex
 pub mod Short
 pub mod Joined
+pub mod Found

@@ -5,8 +5,10 @@ mod cells;
 mod columns;
 mod commands;
 mod pieces;
+mod printing;
 mod rows;
 mod shell;
 mod tables;
 
+pub use commands::command;
 pub use shell::{Command, Shell};
