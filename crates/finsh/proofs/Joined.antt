@@ -89,7 +89,7 @@ abbrev total : List ℕ → ℕ
 total [] = 0
 total (r ∷ rs) = r + 1 + total rs
 
-fits_both : (a b : Bool) → IsTrue (a && b) → IsTrue a × IsTrue b
+pub fits_both : (a b : Bool) → IsTrue (a && b) → IsTrue a × IsTrue b
 fits_both true b h = (refl, h)
 fits_both false b h = absurd (true≢false (sym h))
 

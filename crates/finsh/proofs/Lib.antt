@@ -3,3 +3,4 @@ pub mod Hex
 pub mod Short
 pub mod Joined
 pub mod Found
+pub mod Printed

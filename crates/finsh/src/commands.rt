@@ -4,7 +4,7 @@ ghost use Rattle.std.specs.List.{find};
 ghost use Rattle.std.specs.Str.{bytes_eq};
 ghost use Rattle.std.specs.Option.{option_map};
 ghost use Rattle.rt_plain.specs.declared.line.Line.{Line as Printed};
-ghost use Rattle.rt_plain.specs.Tables.{table, commands};
+ghost use Rattle.rt_plain.specs.Tables.{table, commands, printed_pieces};
 ghost use Rattle.finsh.specs.Commands.{deed_of, row_of};
 
 use crate::printing::{dump_power, list, print, put_name, put_unknown};
@@ -106,6 +106,20 @@ fn help(out: &mut Lines)
     }
 }
 
+// Prints what a command prints.
+fn perform<V: View>(out: &mut Lines, deed: Deed, view: &V)
+    requires room { length out.old.items + 257 ≤ out.old.room }
+    ensures items { out.new.items ≡ out.old.items ++ map (λ piece. Printed.Print piece) (printed_pieces (deed_of deed) (record { rows = V.rows view.now; votes = V.votes_for view.now; mode = V.mode_of view.now })) }
+    ensures room { out.new.room ≡ out.old.room }
+{
+    match deed {
+        Deed::Lists(class) => list(out, class, view),
+        Deed::DumpsPower => dump_power(out, view),
+        Deed::TellsVersion => print(out, b"rtsim 1, profile of RT-Thread 5\n"),
+        Deed::Helps => help(out),
+    }
+}
+
 /// Prints what a command line shows of a view: the table of a class (`list_thread` or `ps`, `list_sem`, `list_event`,
 /// `list_mutex`, `list_mailbox`, `list_msgqueue`, `list_timer`, `list_device`), the votes (`pm_dump`), the version
 /// (`version`), or the commands (`help`). Another line is printed with a note, and an empty one prints nothing. The
@@ -118,10 +132,7 @@ pub fn command<V: View>(line: &[u8], view: &V, out: &mut Lines)
     ensures room { out.new.room ≡ out.old.room }
 {
     match found(line) {
-        Some(Deed::Lists(class)) => list(out, class, view),
-        Some(Deed::DumpsPower) => dump_power(out, view),
-        Some(Deed::TellsVersion) => print(out, b"rtsim 1, profile of RT-Thread 5\n"),
-        Some(Deed::Helps) => help(out),
+        Some(deed) => perform(out, deed, view),
         None => put_unknown(out, line),
     }
 }
