@@ -48,9 +48,8 @@ mapped_twice : (g : Row → List ℕ) (rows : List Row) → map (λ row. Line.Pr
 mapped_twice g [] = refl
 mapped_twice g (row ∷ rows) = ap (λ xs. Line.Print (g row) ∷ xs) (mapped_twice g rows)
 
--- a title line, and all lines
-pub all_rows : (before titled all : List Line) (title : Line) (g : Row → List ℕ) (rows : List Row) (n : ℕ) → length rows ≤ n
-    → titled ≡ before ++ title ∷ [] → all ≡ titled ++ map (λ row. Line.Print (g row)) (take n rows) → all ≡ before ++ (title ∷ map (λ piece. Line.Print piece) (map g rows))
-all_rows before titled all title g rows n long t a =
-    a ∙ ap (λ xs. xs ++ map (λ row. Line.Print (g row)) (take n rows)) t ∙ append_assoc before (title ∷ []) (map (λ row. Line.Print (g row)) (take n rows))
-    ∙ ap (λ rs. before ++ (title ∷ map (λ row. Line.Print (g row)) rs)) (take_all n rows long) ∙ ap (λ xs. before ++ (title ∷ xs)) (mapped_twice g rows)
+-- the lines of all rows
+pub all_rows : (before all : List Line) (g : Row → List ℕ) (rows : List Row) (n : ℕ) → length rows ≤ n
+    → all ≡ before ++ map (λ row. Line.Print (g row)) (take n rows) → all ≡ before ++ map (λ piece. Line.Print piece) (map g rows)
+all_rows before all g rows n long a =
+    a ∙ ap (λ rs. before ++ map (λ row. Line.Print (g row)) rs) (take_all n rows long) ∙ ap (λ xs. before ++ xs) (mapped_twice g rows)

@@ -1,12 +1,13 @@
 //! What the commands print.
-ghost use Rattle.std.specs.Prelude.{◌≡◌, ◌+◌, ◌≤◌, ◌<◌, ◌++◌, [], ◌∷◌, length, map, codes, decimal};
+ghost use Rattle.std.specs.Prelude.{◌≡◌, ◌+◌, ◌≤◌, ◌<◌, ◌++◌, [], ◌∷◌, length, map, codes, decimal, IsTrue};
 ghost use Rattle.rt_plain.specs.declared.line.Line.{Line as Printed};
-ghost use Rattle.rt_plain.specs.Tables.{table_line, class_table, power_columns, power_table, unknown_pieces};
+ghost use Rattle.rt_plain.specs.Tables.{table_line, texts, class_table, power_columns, power_table, unknown_pieces};
 ghost use Rattle.rt_plain.specs.Words.{words, sleep_text};
 ghost use Rattle.rt_plain.specs.PowerCalls.{sleep_modes};
+ghost use Rattle.finsh.specs.Cells.{column_of, rooms, fits};
 
 use crate::cells::{Cell, mode};
-use crate::columns::{columns, power_columns};
+use crate::columns::{Column, columns, power_columns};
 use crate::pieces::Piece;
 use crate::rows::put_row;
 use crate::tables::{put_line, put_titles};
@@ -26,6 +27,18 @@ pub(crate) fn print(out: &mut Lines, bytes: &[u8])
     piece.print(out);
 }
 
+// A line for each object of a class.
+fn put_rows<V: View>(out: &mut Lines, columns: &[Column], class: Class, view: &V)
+    requires columns { IsTrue (fits rooms (map (λ c. c.width) (map column_of columns.now))) }
+    requires room { length out.old.items + 256 ≤ out.old.room }
+    ensures items { out.new.items ≡ out.old.items ++ map (λ piece. Printed.Print piece) (map (λ row. table_line (map column_of columns.now) (texts row)) (V.rows view.now class)) }
+    ensures room { out.new.room ≡ out.old.room }
+{
+    for place in 0..view.count(class) {
+        put_row(out, columns, &view.row(class, place));
+    }
+}
+
 // The titles and a line for each object of a class.
 pub(crate) fn list<V: View>(out: &mut Lines, class: Class, view: &V)
     requires room { length out.old.items + 257 ≤ out.old.room }
@@ -34,9 +47,7 @@ pub(crate) fn list<V: View>(out: &mut Lines, class: Class, view: &V)
 {
     let columns = columns(class);
     put_titles(out, columns);
-    for place in 0..view.count(class) {
-        put_row(out, columns, &view.row(class, place));
-    }
+    put_rows(out, columns, class, view);
 }
 
 // The sleep modes from the lightest on.

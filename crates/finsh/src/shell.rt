@@ -4,11 +4,14 @@ ghost use Rattle.rt_plain.specs.Shell.{longer_line};
 use arrayvec::ArrayVec;
 use std::marker::Model;
 
+// The most bytes of a line.
+const LONGEST: usize = 40;
+
 /// A line that was read: at most 40 bytes, without its newline. Contracts see it as its bytes. The length is this
 /// project's own.
 #[derive(Drop)]
 pub struct Command {
-    line: ArrayVec<u8, 40>,
+    line: ArrayVec<u8, LONGEST>,
 }
 
 impl Model for Command {
@@ -35,7 +38,7 @@ impl Command {
 /// first 40.
 #[derive(Drop)]
 pub struct Shell {
-    line: ArrayVec<u8, 40>,
+    line: ArrayVec<u8, LONGEST>,
 }
 
 impl Model for Shell {

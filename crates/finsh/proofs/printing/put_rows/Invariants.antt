@@ -2,7 +2,7 @@ use Rattle.std.proofs.Common.{◌≡◌, ◌+◌, ◌++◌, [], ◌∷◌, lengt
 use Rattle.rt_plain.specs.declared.line.Line.{Line}
 use Rattle.rt_plain.specs.Tables.{table_line, texts}
 use Rattle.finsh.specs.Cells.{column_of}
-use Rattle.finsh.proofs.printing.list.Given as goal
+use Rattle.finsh.proofs.printing.put_rows.Given as goal
 
 abbrev pub invariant-loop-place : goal.invariant-loop-place
 invariant-loop-place g l = record {
