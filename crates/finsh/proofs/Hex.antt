@@ -1,5 +1,5 @@
 -- Eight digits in base 16, written from the last one on, are a number's digits behind zeros.
-use Rattle.std.proofs.Common.{◌≡◌, ◌∙◌, refl, drop, set, sym, ap, ⊎_elim, ℕ, zero, suc, ◌+◌, ◌-◌, ◌/◌, ◌%◌, ◌^◌, ◌<◌, ◌≤◌, false, cond, List, [], ◌∷◌, ◌++◌, length, replicate, arith, append_assoc, length-append, eq-eqb, ne_eqb, eq-zero-or-pos}
+use Rattle.std.proofs.Common.{◌≡◌, ◌∙◌, refl, drop, set, sym, ap, ⊎_elim, ℕ, zero, suc, ◌+◌, ◌-◌, ◌/◌, ◌%◌, ◌^◌, ◌<◌, ◌≤◌, false, cond, List, [], ◌∷◌, ◌++◌, length, replicate, arith, append_assoc, eq-eqb, ne_eqb, eq-zero-or-pos}
 use Rattle.std.specs.Fmt.{digit_glyph, digits_onto, digits}
 use Rattle.std.proofs.lemmas.List.{replicate_more, drop-set}
 use Rattle.rt_plain.specs.Words.{hex_eight}

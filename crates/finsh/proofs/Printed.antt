@@ -1,5 +1,5 @@
 -- Lines that are printed one after another.
-use Rattle.std.proofs.Common.{◌≡◌, ◌∙◌, refl, sym, ap, subst, ℕ, zero, suc, ◌+◌, ◌<◌, ◌≤◌, Bool, true, false, ◌&&◌, nat_le, IsTrue, Some, List, [], ◌∷◌, ◌++◌, length, map, get_or, take, slice_get, arith, append_assoc, take_all, leb-true, true≢false}
+use Rattle.std.proofs.Common.{◌≡◌, ◌∙◌, refl, sym, ap, subst, ℕ, zero, suc, ◌+◌, ◌<◌, ◌≤◌, Bool, true, ◌&&◌, nat_le, IsTrue, Some, List, [], ◌∷◌, ◌++◌, length, map, get_or, take, slice_get, arith, append_assoc, take_all, leb-true}
 use Rattle.std.proofs.lemmas.List.{get_or-map, length-map, map-append}
 use Rattle.rt_plain.specs.declared.row.Row.{Row}
 use Rattle.rt_plain.specs.declared.line.Line.{Line}

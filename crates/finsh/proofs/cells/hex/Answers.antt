@@ -1,4 +1,4 @@
-use Rattle.std.proofs.Common.{arith, ◌≡◌, ◌∙◌, ◌<◌, ◌≤◌, ◌+◌, ◌-◌, ◌/◌, ◌∷◌, [], ℕ, ap, sym, drop, length, length-set}
+use Rattle.std.proofs.Common.{arith, ◌≡◌, ◌∙◌, ◌-◌, ℕ, ap, sym, drop, length, length-set}
 use Rattle.finsh.specs.Cells.{hex_onto}
 use Rattle.finsh.proofs.Hex.{eight, next_digit}
 use Rattle.finsh.proofs.cells.hex.Goals as goal

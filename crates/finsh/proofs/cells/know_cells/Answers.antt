@@ -1,4 +1,4 @@
-use Rattle.std.proofs.Common.{◌≤◌, ◌+◌, ◌<◌, ℕ, length, get_or, below_more, subst, arith, sym, ◌∙◌}
+use Rattle.std.proofs.Common.{◌≤◌, length, get_or, below_more, subst, arith, ◌∙◌}
 use Rattle.std.proofs.lemmas.List.{get_or_default}
 use Rattle.finsh.specs.declared.cells.Cell.{Cell}
 use Rattle.finsh.specs.Cells.{cell_text, room_of}

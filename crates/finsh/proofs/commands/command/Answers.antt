@@ -1,6 +1,6 @@
 use Rattle.std.proofs.Common.{◌∙◌, ap, sym, ℕ, ◌++◌, List, map}
 use Rattle.rt_plain.specs.declared.line.Line.{Line}
-use Rattle.finsh.proofs.Found.{found_pieces, other_pieces}
+use Rattle.finsh.proofs.Found.{found_pieces}
 use Rattle.finsh.proofs.commands.command.Goals as goal
 
 pub returns-in-Some-clause-items : goal.returns-in-Some-clause-items

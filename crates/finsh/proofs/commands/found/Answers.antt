@@ -1,4 +1,4 @@
-use Rattle.std.proofs.Common.{◌≡◌, ◌∙◌, ◌<◌, ◌≤◌, refl, sym, ap, true, false, get_or, length, arith, Some, None}
+use Rattle.std.proofs.Common.{◌∙◌, sym, arith, Some, None}
 use Rattle.rt_plain.proofs.StatementTableLemmas.{find_on, find_here, find_end}
 use Rattle.finsh.proofs.Found.{is_named, same_deed}
 use Rattle.finsh.proofs.commands.found.Goals as goal

@@ -1,4 +1,4 @@
-use Rattle.std.proofs.Common.{◌≡◌, ◌∙◌, ◌≤◌, ap, ◌++◌, ◌∷◌, [], List, length, map, take, arith, length-append}
+use Rattle.std.proofs.Common.{◌∙◌, ap, ◌∷◌, [], length, map, arith, length-append}
 use Rattle.rt_plain.specs.declared.row.Row.{Row}
 use Rattle.rt_plain.specs.declared.line.Line.{Line}
 use Rattle.rt_plain.specs.Tables.{table_line, texts}
