@@ -32,3 +32,7 @@ abbrev pub hand_votes : Sleep → ℕ
 hand_votes Sleep.Light = 2
 hand_votes Sleep.Deep = 255
 hand_votes _ = 0
+
+-- the mode of now
+abbrev pub hand_mode : Sleep
+hand_mode = Sleep.Light

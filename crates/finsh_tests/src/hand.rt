@@ -2,7 +2,7 @@
 ghost use Rattle.std.specs.Prelude.{◌≡◌, ◌<◌, length, slice_get, Some, IsTrue};
 ghost use Rattle.rt_base.specs.Grammar.{is_name};
 ghost use Rattle.rt_base.specs.declared.codes.Class.{Class as Kind};
-ghost use Rattle.finsh_tests.specs.Hand.{hand_rows, hand_votes};
+ghost use Rattle.finsh_tests.specs.Hand.{hand_rows, hand_votes, hand_mode};
 
 use rt_base::{Class, Code, CoreNo, Name, Prio, Sleep};
 use rt_plain::{Row, ThreadState, View};
@@ -191,7 +191,7 @@ impl View for Hand {
 
     ghost votes_for = { λ hand mode. hand_votes mode };
 
-    ghost mode_of = { λ hand. Sleep.Light };
+    ghost mode_of = { λ hand. hand_mode };
 
     fn count(&self, class: Class) -> usize {
         match class {
