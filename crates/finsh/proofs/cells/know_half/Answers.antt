@@ -1,0 +1,6 @@
+use Rattle.std.proofs.Common.{arith}
+use Rattle.std.proofs.lemmas.Fmt.{length-decimal-le}
+use Rattle.finsh.proofs.cells.know_half.Goals as goal
+
+pub returns : goal.returns
+returns c = length-decimal-le 5 c.args.n (omega arith) (omega arith) (omega arith)

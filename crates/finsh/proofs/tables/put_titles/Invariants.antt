@@ -1,0 +1,9 @@
+use Rattle.std.proofs.Common.{◌≡◌, ◌++◌, map}
+use Rattle.rt_plain.specs.Words.{words}
+use Rattle.rt_plain.specs.Tables.{cells}
+use Rattle.finsh.specs.Cells.{column_of}
+use Rattle.finsh.proofs.Joined.{behind, cells_from}
+use Rattle.finsh.proofs.tables.put_titles.Given as goal
+
+abbrev pub invariant-loop-place : goal.invariant-loop-place
+invariant-loop-place l = l.piece ++ behind l.place (cells_from l.place (map column_of l.columns) (map (λ c. c.title) (map column_of l.columns))) ≡ words (cells (map column_of l.columns) (map (λ c. c.title) (map column_of l.columns)))

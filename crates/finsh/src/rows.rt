@@ -1,0 +1,149 @@
+//! The rows of the tables of classes.
+ghost use Rattle.std.specs.Prelude.{◌≡◌, ◌<◌, ◌++◌, [], ◌∷◌, length, map, IsTrue};
+ghost use Rattle.rt_plain.specs.declared.line.Line.{Line as Printed};
+ghost use Rattle.rt_plain.specs.Tables.{table_line, texts};
+ghost use Rattle.finsh.specs.Cells.{column_of, rooms, fits};
+
+use crate::cells::Cell;
+use crate::columns::Column;
+use crate::tables::put_line;
+use rt_plain::{Lines, Row};
+
+// A row of a class's table.
+pub(crate) fn put_row(out: &mut Lines, columns: &[Column], row: &Row)
+    requires columns { IsTrue (fits rooms (map (λ c. c.width) (map column_of columns.now))) }
+    requires room { length out.old.items < out.old.room }
+    ensures items { out.new.items ≡ out.old.items ++ Printed.Print (table_line (map column_of columns.now) (texts row.now)) ∷ [] }
+    ensures room { out.new.room ≡ out.old.room }
+{
+    match row {
+        Row::Thread {
+            name,
+            cur,
+            base,
+            state,
+            core,
+            left,
+            code,
+        } => put_line(
+            out,
+            columns,
+            &[
+                Cell::Name(name),
+                Cell::Prio(*cur),
+                Cell::Prio(*base),
+                Cell::State(*state),
+                Cell::Core(*core),
+                Cell::Byte(*left),
+                Cell::Code(*code),
+            ],
+        ),
+        Row::Sem {
+            name,
+            value,
+            waiters,
+        } => put_line(
+            out,
+            columns,
+            &[Cell::Name(name), Cell::Half(*value), Cell::Half(*waiters)],
+        ),
+        Row::Event {
+            name,
+            flags,
+            waiters,
+        } => put_line(
+            out,
+            columns,
+            &[Cell::Name(name), Cell::Flags(*flags), Cell::Half(*waiters)],
+        ),
+        Row::Mutex {
+            name,
+            owner,
+            hold,
+            ceiling,
+            waiters,
+        } => put_line(
+            out,
+            columns,
+            &[
+                Cell::Name(name),
+                Cell::Owner(owner),
+                Cell::Byte(*hold),
+                Cell::Prio(*ceiling),
+                Cell::Half(*waiters),
+            ],
+        ),
+        Row::Mailbox {
+            name,
+            used,
+            size,
+            receivers,
+            senders,
+        } => put_line(
+            out,
+            columns,
+            &[
+                Cell::Name(name),
+                Cell::Byte(*used),
+                Cell::Byte(*size),
+                Cell::Half(*receivers),
+                Cell::Half(*senders),
+            ],
+        ),
+        Row::MsgQueue {
+            name,
+            used,
+            size,
+            max,
+            receivers,
+            senders,
+        } => put_line(
+            out,
+            columns,
+            &[
+                Cell::Name(name),
+                Cell::Byte(*used),
+                Cell::Byte(*size),
+                Cell::Byte(*max),
+                Cell::Half(*receivers),
+                Cell::Half(*senders),
+            ],
+        ),
+        Row::Timer {
+            name,
+            periodic,
+            soft,
+            time,
+            due,
+        } => put_line(
+            out,
+            columns,
+            &[
+                Cell::Name(name),
+                Cell::Kind {
+                    soft: *soft,
+                    periodic: *periodic,
+                },
+                Cell::Number(*time),
+                Cell::Due(*due),
+            ],
+        ),
+        Row::Device {
+            name,
+            console,
+            opened,
+            rx,
+            tx,
+        } => put_line(
+            out,
+            columns,
+            &[
+                Cell::Name(name),
+                Cell::Device { console: *console },
+                Cell::Byte(*opened),
+                Cell::Half(*rx),
+                Cell::Half(*tx),
+            ],
+        ),
+    }
+}
