@@ -3,7 +3,7 @@ use Rattle.std.proofs.Common.{◌≡◌, ◌∙◌, refl, sym, ap, ℕ, Bool, tr
 use Rattle.std.specs.List.{find}
 use Rattle.std.specs.Str.{bytes_eq}
 use Rattle.std.specs.Option.{option_map}
-use Rattle.rt_plain.specs.Tables.{Command, CommandRow, Seen, commands, printed_pieces, unknown_pieces, pieces_for}
+use Rattle.rt_plain.specs.kernel.Tables.{Command, CommandRow, Seen, commands, printed_pieces, unknown_pieces, pieces_for}
 use Rattle.finsh.specs.Commands.{deed_of, row_of}
 use Rattle.finsh.specs.declared.commands.Named.{Named}
 

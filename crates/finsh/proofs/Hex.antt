@@ -2,7 +2,7 @@
 use Rattle.std.proofs.Common.{◌≡◌, ◌∙◌, refl, drop, set, sym, ap, ⊎_elim, ℕ, zero, suc, ◌+◌, ◌-◌, ◌/◌, ◌%◌, ◌^◌, ◌<◌, ◌≤◌, false, cond, List, [], ◌∷◌, ◌++◌, length, replicate, arith, append_assoc, eq-eqb, ne_eqb, eq-zero-or-pos}
 use Rattle.std.specs.Fmt.{digit_glyph, digits_onto, digits}
 use Rattle.std.proofs.lemmas.List.{replicate_more, drop-set}
-use Rattle.rt_plain.specs.Words.{hex_eight}
+use Rattle.rt_plain.specs.text.Words.{hex_eight}
 use Rattle.finsh.specs.Cells.{hex_onto}
 
 -- no number is so many zeros

@@ -4,8 +4,8 @@ use Rattle.std.specs.List.{flat_map}
 use Rattle.std.proofs.lemmas.List.{length-replicate, get_or-map}
 use Rattle.std.proofs.lemmas.List.Concat.{flat_map-cons}
 use Rattle.std.proofs.lemmas.List.Elements.{All-head, All-tail}
-use Rattle.rt_plain.specs.Words.{words}
-use Rattle.rt_plain.specs.Tables.{Column, cell, cells}
+use Rattle.rt_plain.specs.text.Words.{words}
+use Rattle.rt_plain.specs.kernel.Tables.{Column, cell, cells}
 use Rattle.finsh.specs.declared.cells.Cell.{Cell}
 use Rattle.finsh.specs.Cells.{cell_text, room_of, rooms, fits, separator}
 

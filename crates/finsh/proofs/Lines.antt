@@ -2,7 +2,7 @@
 use Rattle.std.proofs.Common.{◌≡◌, ◌∙◌, refl, ℕ, zero, suc, ◌<◌, List, [], ◌∷◌, ◌++◌, length, take, ap, arith, length-append, append_assoc}
 use Rattle.std.proofs.Math.Seq.{take_all}
 use Rattle.std.proofs.lemmas.List.{take_at}
-use Rattle.rt_plain.specs.Shell.{longer_line}
+use Rattle.rt_plain.specs.kernel.Shell.{longer_line}
 
 -- a full line stays
 pub full : (line : List ℕ) (byte : ℕ) → length line ≡ 40 → longer_line line (byte ∷ []) ≡ line

@@ -3,7 +3,7 @@ use Rattle.std.proofs.Common.{◌≡◌, ◌∙◌, refl, sym, ap, subst, ℕ, z
 use Rattle.std.proofs.lemmas.List.{get_or-map, length-map, map-append}
 use Rattle.rt_plain.specs.declared.row.Row.{Row}
 use Rattle.rt_plain.specs.declared.line.Line.{Line}
-use Rattle.rt_plain.specs.Tables.{CommandRow, commands}
+use Rattle.rt_plain.specs.kernel.Tables.{CommandRow, commands}
 use Rattle.finsh.specs.Commands.{row_of}
 use Rattle.finsh.specs.declared.commands.Named.{Named}
 use Rattle.finsh.proofs.Joined.{fits_both}

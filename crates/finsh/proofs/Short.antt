@@ -4,8 +4,8 @@ use Rattle.std.specs.Fmt.{digits}
 use Rattle.rt_base.specs.declared.codes.Code.{Code}
 use Rattle.rt_base.specs.declared.codes.Sleep.{Sleep}
 use Rattle.rt_plain.specs.declared.row.ThreadState.{ThreadState}
-use Rattle.rt_plain.specs.Words.{code_text, sleep_text}
-use Rattle.rt_plain.specs.Tables.{state_text, kind_text}
+use Rattle.rt_plain.specs.text.Words.{code_text, sleep_text}
+use Rattle.rt_plain.specs.kernel.Tables.{state_text, kind_text}
 use Rattle.finsh.specs.Cells.{device_text}
 
 pub state : (s : ThreadState) → length (state_text s) ≤ 7

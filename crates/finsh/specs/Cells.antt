@@ -1,8 +1,8 @@
 -- What stands in a cell of a table.
 use Rattle.std.specs.Prelude.{ℕ, zero, suc, ◌/◌, ◌%◌, Bool, true, false, ◌&&◌, List, [], ◌∷◌, Option, decimal, codes, unwrap_or, nat_le, if◌then◌else◌}
 use Rattle.std.specs.Fmt.{digit_glyph}
-use Rattle.rt_plain.specs.Words.{code_text, sleep_text, hex_eight}
-use Rattle.rt_plain.specs.Tables.{Column as PlainColumn, left_column, right_column, state_text, kind_text, number_or}
+use Rattle.rt_plain.specs.text.Words.{code_text, sleep_text, hex_eight}
+use Rattle.rt_plain.specs.kernel.Tables.{Column as PlainColumn, left_column, right_column, state_text, kind_text, number_or}
 use Rattle.finsh.specs.declared.columns.Column.{Column}
 use Rattle.finsh.specs.declared.cells.Cell.{Cell}
 

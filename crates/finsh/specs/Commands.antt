@@ -1,5 +1,5 @@
 -- The commands of the code are those of the definitions.
-use Rattle.rt_plain.specs.Tables.{Command, Lists, DumpsPower, TellsVersion, Helps, CommandRow, command_row}
+use Rattle.rt_plain.specs.kernel.Tables.{Command, Lists, DumpsPower, TellsVersion, Helps, CommandRow, command_row}
 use Rattle.finsh.specs.declared.commands.Deed.{Deed}
 use Rattle.finsh.specs.declared.commands.Named.{Named}
 

@@ -1,8 +1,8 @@
 //! What stands in the cells of the tables, and its text.
 ghost use Rattle.std.specs.Prelude.{false, ◌≡◌, ◌≤◌, ◌<◌, length, decimal, codes, All};
 ghost use Rattle.std.specs.Fmt.{digit_glyph};
-ghost use Rattle.rt_plain.specs.Words.{code_text, sleep_text, hex_eight};
-ghost use Rattle.rt_plain.specs.Tables.{state_text, kind_text, number_or};
+ghost use Rattle.rt_plain.specs.text.Words.{code_text, sleep_text, hex_eight};
+ghost use Rattle.rt_plain.specs.kernel.Tables.{state_text, kind_text, number_or};
 ghost use Rattle.finsh.specs.Cells.{cell_text, room_of, name_or_dash, device_text};
 
 use arrayvec::ArrayVec;

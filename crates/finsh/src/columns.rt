@@ -1,6 +1,6 @@
 //! The columns of the tables.
 ghost use Rattle.std.specs.Prelude.{◌≡◌, map};
-ghost use Rattle.rt_plain.specs.Tables.{columns as plain_columns, power_columns};
+ghost use Rattle.rt_plain.specs.kernel.Tables.{columns as plain_columns, power_columns};
 ghost use Rattle.finsh.specs.Cells.{column_of};
 
 use rt_base::Class;

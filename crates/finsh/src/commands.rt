@@ -4,7 +4,7 @@ ghost use Rattle.std.specs.List.{find};
 ghost use Rattle.std.specs.Str.{bytes_eq};
 ghost use Rattle.std.specs.Option.{option_map};
 ghost use Rattle.rt_plain.specs.declared.line.Line.{Line as Printed};
-ghost use Rattle.rt_plain.specs.Tables.{table, commands, printed_pieces};
+ghost use Rattle.rt_plain.specs.kernel.Tables.{table, commands, printed_pieces};
 ghost use Rattle.finsh.specs.Commands.{deed_of, row_of};
 
 use crate::printing::{dump_power, list, print, put_name, put_unknown};

@@ -1,9 +1,9 @@
 //! What the commands print.
 ghost use Rattle.std.specs.Prelude.{◌≡◌, ◌+◌, ◌≤◌, ◌<◌, ◌++◌, [], ◌∷◌, length, map, codes, decimal, IsTrue};
 ghost use Rattle.rt_plain.specs.declared.line.Line.{Line as Printed};
-ghost use Rattle.rt_plain.specs.Tables.{table_line, texts, class_table, power_columns, power_table, unknown_pieces};
-ghost use Rattle.rt_plain.specs.Words.{words, sleep_text};
-ghost use Rattle.rt_plain.specs.PowerCalls.{sleep_modes};
+ghost use Rattle.rt_plain.specs.kernel.Tables.{table_line, texts, class_table, power_columns, power_table, unknown_pieces};
+ghost use Rattle.rt_plain.specs.text.Words.{words, sleep_text};
+ghost use Rattle.rt_plain.specs.kernel.PowerCalls.{sleep_modes};
 ghost use Rattle.finsh.specs.Cells.{column_of, rooms, fits};
 
 use crate::cells::{Cell, mode};

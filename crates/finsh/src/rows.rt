@@ -1,7 +1,7 @@
 //! The rows of the tables of classes.
 ghost use Rattle.std.specs.Prelude.{◌≡◌, ◌<◌, ◌++◌, [], ◌∷◌, length, map, IsTrue};
 ghost use Rattle.rt_plain.specs.declared.line.Line.{Line as Printed};
-ghost use Rattle.rt_plain.specs.Tables.{table_line, texts};
+ghost use Rattle.rt_plain.specs.kernel.Tables.{table_line, texts};
 ghost use Rattle.finsh.specs.Cells.{column_of, rooms, fits};
 
 use crate::cells::Cell;

@@ -1,5 +1,5 @@
 ghost use Rattle.std.specs.Prelude.{◌≡◌, ◌≢◌, ◌≤◌, [], ◌∷◌, None, Some, length};
-ghost use Rattle.rt_plain.specs.Shell.{longer_line};
+ghost use Rattle.rt_plain.specs.kernel.Shell.{longer_line};
 
 use arrayvec::ArrayVec;
 use std::marker::Model;

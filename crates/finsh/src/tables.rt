@@ -1,7 +1,7 @@
 //! The lines of the tables.
 ghost use Rattle.std.specs.Prelude.{◌≡◌, ◌+◌, ◌≤◌, ◌<◌, ◌++◌, [], ◌∷◌, length, map, IsTrue};
 ghost use Rattle.rt_plain.specs.declared.line.Line.{Line as Printed};
-ghost use Rattle.rt_plain.specs.Tables.{cell, table_line};
+ghost use Rattle.rt_plain.specs.kernel.Tables.{cell, table_line};
 ghost use Rattle.finsh.specs.Cells.{column_of, cell_text, room_of, rooms, fits, separator};
 
 use crate::cells::{Cell, know_cells, written};

@@ -1,5 +1,5 @@
 use Rattle.std.proofs.Common.{◌∙◌, sym, arith, Some, None}
-use Rattle.rt_plain.proofs.StatementTableLemmas.{find_on, find_here, find_end}
+use Rattle.rt_plain.proofs.text.StatementTableLemmas.{find_on, find_here, find_end}
 use Rattle.finsh.proofs.Found.{is_named, same_deed}
 use Rattle.finsh.proofs.commands.found.Goals as goal
 

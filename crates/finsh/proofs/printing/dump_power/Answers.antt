@@ -1,7 +1,7 @@
 use Rattle.std.proofs.Common.{◌∙◌, ap, List, ◌++◌, ◌∷◌, [], map, codes}
 use Rattle.rt_plain.specs.declared.line.Line.{Line}
-use Rattle.rt_plain.specs.Tables.{Column, table_line}
-use Rattle.rt_plain.specs.Words.{words, sleep_text}
+use Rattle.rt_plain.specs.kernel.Tables.{Column, table_line}
+use Rattle.rt_plain.specs.text.Words.{words, sleep_text}
 use Rattle.finsh.proofs.Printed.{three_parts}
 use Rattle.finsh.proofs.printing.dump_power.Goals as goal
 

@@ -1,7 +1,7 @@
 use Rattle.std.proofs.Common.{◌∙◌, ap, ◌∷◌, [], length, map, arith, length-append}
 use Rattle.rt_plain.specs.declared.row.Row.{Row}
 use Rattle.rt_plain.specs.declared.line.Line.{Line}
-use Rattle.rt_plain.specs.Tables.{table_line, texts}
+use Rattle.rt_plain.specs.kernel.Tables.{table_line, texts}
 use Rattle.finsh.specs.Cells.{column_of}
 use Rattle.finsh.proofs.Printed.{one_more, all_rows}
 use Rattle.finsh.proofs.printing.put_rows.Goals as goal

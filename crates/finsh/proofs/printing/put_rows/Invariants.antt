@@ -1,6 +1,6 @@
 use Rattle.std.proofs.Common.{◌≡◌, ◌+◌, ◌++◌, length, map, take}
 use Rattle.rt_plain.specs.declared.line.Line.{Line}
-use Rattle.rt_plain.specs.Tables.{table_line, texts}
+use Rattle.rt_plain.specs.kernel.Tables.{table_line, texts}
 use Rattle.finsh.specs.Cells.{column_of}
 use Rattle.finsh.proofs.printing.put_rows.Given as goal
 

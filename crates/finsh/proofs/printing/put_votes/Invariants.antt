@@ -1,7 +1,7 @@
 use Rattle.std.proofs.Common.{◌≡◌, ◌+◌, ◌++◌, [], ◌∷◌, length, map, take, decimal}
 use Rattle.rt_plain.specs.declared.line.Line.{Line}
-use Rattle.rt_plain.specs.Tables.{table_line, power_columns}
-use Rattle.rt_plain.specs.Words.{sleep_text}
+use Rattle.rt_plain.specs.kernel.Tables.{table_line, power_columns}
+use Rattle.rt_plain.specs.text.Words.{sleep_text}
 use Rattle.finsh.proofs.printing.put_votes.Given as goal
 
 abbrev pub invariant-loop-mode : goal.invariant-loop-mode

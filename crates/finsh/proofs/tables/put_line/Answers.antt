@@ -1,8 +1,8 @@
 use Rattle.std.proofs.Common.{arith, ◌≡◌, ◌∙◌, ◌≤◌, ◌<◌, ap, sym, length, map, get_or, min, ◌++◌, ◌∷◌, []}
 use Rattle.std.proofs.lemmas.List.{get_or-map, length-map}
 use Rattle.rt_plain.specs.declared.line.Line.{Line}
-use Rattle.rt_plain.specs.Words.{words}
-use Rattle.rt_plain.specs.Tables.{cells}
+use Rattle.rt_plain.specs.text.Words.{words}
+use Rattle.rt_plain.specs.kernel.Tables.{cells}
 use Rattle.finsh.specs.Cells.{column_of, cell_text}
 use Rattle.finsh.proofs.Joined.{joined_more, joined_room, joined_end, cells_short}
 use Rattle.finsh.proofs.tables.put_line.Goals as goal

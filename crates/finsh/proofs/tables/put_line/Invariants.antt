@@ -1,6 +1,6 @@
 use Rattle.std.proofs.Common.{◌≡◌, ◌++◌, map}
-use Rattle.rt_plain.specs.Words.{words}
-use Rattle.rt_plain.specs.Tables.{cells}
+use Rattle.rt_plain.specs.text.Words.{words}
+use Rattle.rt_plain.specs.kernel.Tables.{cells}
 use Rattle.finsh.specs.Cells.{column_of, cell_text}
 use Rattle.finsh.proofs.Joined.{behind, cells_from}
 use Rattle.finsh.proofs.tables.put_line.Given as goal
