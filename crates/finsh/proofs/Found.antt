@@ -8,7 +8,7 @@ use Rattle.finsh.specs.Commands.{deed_of, row_of}
 use Rattle.finsh.specs.declared.commands.Named.{Named}
 
 abbrev pub is_named : List ℕ → Named → Bool
-is_named line named = bytes_eq named.name.now line
+is_named line named = bytes_eq named.0.now line
 
 first : (t : Bool) (n : Named) (r : Option CommandRow) (o : Option Named) → r ≡ option_map row_of o → cond t (Some (row_of n)) r ≡ option_map row_of (cond t (Some n) o)
 first true n r o e = refl
@@ -18,13 +18,13 @@ found_in : (line : List ℕ) (ns : List Named) → find (λ (row : CommandRow). 
 found_in line [] = refl
 found_in line (n ∷ ns) = first (is_named line n) n (find (λ (row : CommandRow). bytes_eq row.name line) (map row_of ns)) (find (is_named line) ns) (found_in line ns)
 
-deed_found : (o : Option Named) → option_map deed_of (option_map (λ n. n.deed) o) ≡ option_map (λ row. row.command) (option_map row_of o)
+deed_found : (o : Option Named) → option_map deed_of (option_map (λ n. n.1) o) ≡ option_map (λ row. row.command) (option_map row_of o)
 deed_found None = refl
 deed_found (Some n) = refl
 
 -- what the line's command does is found in either table
 pub same_deed : (line : List ℕ) (ns : List Named) (found : Option Named) → map row_of ns ≡ commands → find (is_named line) ns ≡ found
-    → option_map deed_of (option_map (λ n. n.deed) found) ≡ option_map (λ row. row.command) (find (λ (row : CommandRow). bytes_eq row.name line) commands)
+    → option_map deed_of (option_map (λ n. n.1) found) ≡ option_map (λ row. row.command) (find (λ (row : CommandRow). bytes_eq row.name line) commands)
 same_deed line ns found all e =
     deed_found found ∙ ap (λ o. option_map (λ row. row.command) (option_map row_of o)) (sym e)
     ∙ ap (option_map (λ row. row.command)) (sym (found_in line ns))

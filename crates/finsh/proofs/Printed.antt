@@ -39,7 +39,7 @@ short_at [] i d s h = absurd (omega arith)
 short_at (r ∷ rs) zero d s h = leb-true _ _ (fits_both (nat_le (length r.name) 63) (short_names rs) s).0
 short_at (r ∷ rs) (suc i) d s h = short_at rs i d (fits_both (nat_le (length r.name) 63) (short_names rs) s).1 (omega arith)
 
-pub name_short : (ns : List Named) (i : ℕ) (d : Named) → map row_of ns ≡ commands → i < length ns → length (get_or ns i d).name.now ≤ 63
+pub name_short : (ns : List Named) (i : ℕ) (d : Named) → map row_of ns ≡ commands → i < length ns → length (get_or ns i d).0.now ≤ 63
 name_short ns i d e h =
     let same : get_or commands i (row_of d) ≡ row_of (get_or ns i d) = ap (λ rs. get_or rs i (row_of d)) (sym e) ∙ get_or-map row_of ns i d (row_of d) h in
     subst (λ (r : CommandRow). length r.name ≤ 63) same (short_at commands i (row_of d) refl (omega (arith, ap length e, length-map ns row_of)))

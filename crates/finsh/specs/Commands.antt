@@ -12,4 +12,4 @@ deed_of Deed.Helps = Helps
 
 -- a row of the command list
 abbrev pub row_of : Named → CommandRow
-row_of named = command_row named.name.now (deed_of named.deed)
+row_of named = command_row named.0.now (deed_of named.1)

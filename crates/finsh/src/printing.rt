@@ -32,6 +32,7 @@ fn put_rows<V: View>(out: &mut Lines, columns: &[Column], class: Class, view: &V
     requires columns { IsTrue (fits rooms (map (λ c. c.width) (map column_of columns.now))) }
     requires room { length out.old.items + 256 ≤ out.old.room }
     ensures items { out.new.items ≡ out.old.items ++ map (λ piece. Printed.Print piece) (map (λ row. table_line (map column_of columns.now) (texts row)) (V.rows view.now class)) }
+    ensures few { length out.new.items ≤ length out.old.items + 256 }
     ensures room { out.new.room ≡ out.old.room }
 {
     for place in 0..view.count(class) {
@@ -43,6 +44,7 @@ fn put_rows<V: View>(out: &mut Lines, columns: &[Column], class: Class, view: &V
 pub(crate) fn list<V: View>(out: &mut Lines, class: Class, view: &V)
     requires room { length out.old.items + 257 ≤ out.old.room }
     ensures items { out.new.items ≡ out.old.items ++ map (λ piece. Printed.Print piece) (class_table (record { rows = V.rows view.now; votes = V.votes_for view.now; mode = V.mode_of view.now }) class) }
+    ensures few { length out.new.items ≤ length out.old.items + 257 }
     ensures room { out.new.room ≡ out.old.room }
 {
     let columns = columns(class);
@@ -68,6 +70,7 @@ fn modes() -> &'static [Sleep]
 fn put_votes<V: View>(out: &mut Lines, view: &V)
     requires room { length out.old.items + 6 ≤ out.old.room }
     ensures items { out.new.items ≡ out.old.items ++ map (λ mode. Printed.Print (table_line power_columns (sleep_text mode ∷ decimal (V.votes_for view.now mode) ∷ []))) sleep_modes }
+    ensures few { length out.new.items ≤ length out.old.items + 6 }
     ensures room { out.new.room ≡ out.old.room }
 {
     for mode in modes() {
@@ -96,6 +99,7 @@ fn put_mode(out: &mut Lines, now: Sleep)
 pub(crate) fn dump_power<V: View>(out: &mut Lines, view: &V)
     requires room { length out.old.items + 8 ≤ out.old.room }
     ensures items { out.new.items ≡ out.old.items ++ map (λ piece. Printed.Print piece) (power_table (record { rows = V.rows view.now; votes = V.votes_for view.now; mode = V.mode_of view.now })) }
+    ensures few { length out.new.items ≤ length out.old.items + 8 }
     ensures room { out.new.room ≡ out.old.room }
 {
     put_titles(out, power_columns());
@@ -121,6 +125,7 @@ pub(crate) fn put_unknown(out: &mut Lines, line: &[u8])
     requires short { length line.now ≤ 40 }
     requires room { length out.old.items < out.old.room }
     ensures items { out.new.items ≡ out.old.items ++ map (λ piece. Printed.Print piece) (unknown_pieces line.now) }
+    ensures few { length out.new.items ≤ length out.old.items + 1 }
     ensures room { out.new.room ≡ out.old.room }
 {
     if line.is_empty() {
