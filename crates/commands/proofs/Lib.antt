@@ -2,3 +2,4 @@
 pub mod GrowLemmas
 pub mod TopLemmas
 pub mod SaidLemmas
+pub mod WordLemmas

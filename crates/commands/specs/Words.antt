@@ -20,6 +20,13 @@ abbrev pub command_of : List (String Global) → Option Command
 command_of (name ∷ file ∷ []) = one_file (string_bytes name) (string_bytes file)
 command_of _ = None
 
+-- a command that is built
+abbrev pub if_built : Command → Option Command
+if_built (Command.Trace file) = Some (Command.Trace file)
+if_built (Command.Run file) = Some (Command.Run file)
+if_built (Command.Show file) = Some (Command.Show file)
+if_built _ = None
+
 -- a command by the bytes of its file's name
 abbrev pub plain : Asked → Command
 plain (Trace file) = Command.Trace file.now

@@ -8,6 +8,7 @@ ghost use Rattle.rt_plain.specs.kernel.State.{State};
 ghost use Rattle.rt_plain.specs.kernel.Due.{due};
 ghost use Rattle.rt_plain.specs.kernel.Shown.{shown};
 ghost use Rattle.rt_plain.specs.kernel.Sleeps.{Made};
+ghost use Rattle.rt_plain.specs.kernel.Sound.{IsSound};
 ghost use Rattle.rt_plain.specs.kernel.Steps.{happens};
 ghost use Rattle.kernel_step.specs.Built.{IsBuilt, is_built};
 ghost use Rattle.kernel_step.specs.Seen.{did_by, limit_of, picked_tick};
@@ -231,6 +232,15 @@ impl Machine {
         ensures run { IsReached self.now.board self.now.course }
     {
         &self.journal
+    }
+
+    /// The machine's state is sound: each thread stands in one place, no armed row is due, a core that holds the lock
+    /// over all cores runs a thread. It does nothing when it runs.
+    pub fn know_sound(&self)
+        ensures { IsSound self.now.board self.now.course.state }
+    {
+        reached_states_are_sound();
+        self.engine.facts();
     }
 
     /// How the machine has halted, none where it hasn't.
