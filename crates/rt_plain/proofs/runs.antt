@@ -14,3 +14,4 @@ pub mod RoomLemmas
 pub mod DeedLemmas
 pub mod AlikeLemmas
 pub mod TicklessLemmas
+pub mod GeneratedLemmas

@@ -155,7 +155,7 @@ valid_until b is = ((valid_grows b is).0 LineKind.Until).0.1
 
 -- ---- scripts
 
-last_of : (front : List ThreadDef) (t : ThreadDef) → last_length (front ++ t ∷ []) ≡ length t.script
+pub last_of : (front : List ThreadDef) (t : ThreadDef) → last_length (front ++ t ∷ []) ≡ length t.script
 last_of [] t = refl
 last_of (u ∷ []) t = refl
 last_of (u ∷ v ∷ us) t = last_of (v ∷ us) t

@@ -545,6 +545,10 @@ all_stand b h k =
     (both_lead (limits_lead b (record s.board { shell = b.shell; soft = b.soft }) (h LineKind.Limit)) (omega arith) (objects_lead b k))) in
     all-append start (setting_lines b) (other_lines b) (settings_stand b h) (others.stand s (record { board = refl; begun = omega arith; within = omega arith; unlimited = λ lt. refl }))
 
+-- a board is valid whose settings fit, and whose lists come item by item
+pub grown_is_valid : (b : PlainBoard) → SettingsFit b → ObjectsGrow b → IsValid b
+grown_is_valid b fit grow = valid_where_all_stand b (all_stand b fit grow)
+
 -- the board that a text is, is valid
 pub read_is_valid : (bytes : List ℕ) (b : PlainBoard) → IsBoard bytes b → IsValid b
 read_is_valid bytes b h =
