@@ -1,0 +1,3 @@
+pub mod AlarmLemmas
+pub mod RowLemmas
+pub mod TimerLemmas

@@ -1,0 +1,2 @@
+pub mod Alarmed
+pub mod Arming

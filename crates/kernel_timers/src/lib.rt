@@ -1,0 +1,8 @@
+//! The timers of a board, and what is armed: when the wait of each thread and each timer is due.
+#![tactic(auto)]
+
+mod alarms;
+mod open;
+mod timers;
+
+pub use alarms::Alarms;
