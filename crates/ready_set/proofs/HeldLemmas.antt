@@ -5,9 +5,9 @@ use Rattle.std.proofs.lemmas.Nat.{div_below}
 use Rattle.std.proofs.Math.Nat.{mod-add-div', mul_comm}
 use Rattle.std.proofs.lemmas.Bool.{false≢true, or_cases, or_left, or_right, and_from, eqb-true, eq-eqb, cases_Bool, cases_lt}
 use Rattle.rt_plain.specs.kernel.Pick.{ReadyRow, is_bound_so, is_in_queue}
-use Rattle.ready_set.specs.Links.{IsAmong}
+use Rattle.rt_base.specs.Chains.{IsAmong}
 use Rattle.ready_set.specs.ReadyLists.{ReadyView, binding_place, queue_place, queue_of, IsBinding, is_held, StandsForRows}
-use Rattle.ready_set.proofs.Chains.{true_from_among}
+use Rattle.rt_base.proofs.Chains.{true_from_among}
 use Rattle.ready_set.proofs.LinkLemmas.{found_in}
 use Rattle.ready_set.proofs.PickLemmas.{queued_at}
 use Rattle.ready_set.proofs.RowLemmas.{threads_of, bound_same, filter_yes, filter_no}

@@ -1,4 +1,3 @@
-pub mod Chains
 pub mod LinkLemmas
 pub mod LevelBits
 pub mod RowLemmas

@@ -5,8 +5,9 @@ use Rattle.std.proofs.lemmas.List.FromFn.{fill_by_all}
 use Rattle.std.proofs.lemmas.List.Sums.{length-filter, count_by-le-length, sum_by-set}
 use Rattle.std.proofs.lemmas.Option.{slice_get_within, slice_get-get_or, get_or_from_slice_get}
 use Rattle.std.proofs.lemmas.Bool.{false≢true, or_cases, or_left, or_right, eq-eqb, ne_eqb, cases_eq, cases_Bool}
-use Rattle.ready_set.specs.Links.{queue_at, queues_of, is_among, is_queued, without, occupied, IsEmptied, IsChain, IsAmong, IsApart, is_place, IsLinked, Queued}
-use Rattle.ready_set.proofs.Chains.{among_from_true, true_from_among, among_push, among_pushed_old, among_pushed_new, apart_push, without_absent, among_without, among_kept, apart_without, length_without, walk_is, last_among, first_among, prev_among, next_among, IsPutIn, IsTakenOut, chain_kept, chain_pushed, chain_fronted, chain_without, alone, one_neighbour}
+use Rattle.rt_base.specs.Chains.{is_among, without, IsChain, IsAmong, IsApart}
+use Rattle.ready_set.specs.Links.{queue_at, queues_of, is_queued, occupied, IsEmptied, is_place, IsLinked, Queued}
+use Rattle.rt_base.proofs.Chains.{among_from_true, true_from_among, among_push, among_pushed_old, among_pushed_new, apart_push, without_absent, among_without, among_kept, apart_without, length_without, walk_is, last_among, first_among, prev_among, next_among, IsPutIn, IsTakenOut, chain_kept, chain_pushed, chain_fronted, chain_without, alone, one_neighbour}
 
 -- who stands in a queue is a thread
 pub thread_below : (t : ℕ) (n p : List ℕ) (pl : List (Option ℕ)) (qs : List (List ℕ)) → IsLinked t n p pl qs → (k x : ℕ) → IsAmong x (get_or qs k []) → x < t

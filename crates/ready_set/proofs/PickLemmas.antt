@@ -5,7 +5,8 @@ use Rattle.std.specs.Option.{option_map, IfSome, IfNone}
 use Rattle.std.proofs.lemmas.List.Elements.{All-head, All-tail, All-filter, filter_passes}
 use Rattle.std.proofs.lemmas.Bool.{false≢true, or_left, or_right, and_from, and_left, and_right, eqb-true, eq-eqb, ne_eqb, lt-ltb, le-ltb, ltb-true, ltb-false, cond-true, cond-false, cases_lt, cases_Bool, false_from_ne_true}
 use Rattle.rt_plain.specs.kernel.Pick.{ReadyRow, is_free_for, goes_before, first_best, pick_among, is_bound_so, is_in_queue, ready_queue}
-use Rattle.ready_set.specs.Links.{is_among, is_queued, occupied, Queued}
+use Rattle.rt_base.specs.Chains.{is_among}
+use Rattle.ready_set.specs.Links.{is_queued, occupied, Queued}
 use Rattle.ready_set.specs.Levels.{Bitmaps, IsLeastLevel, HasNoLevel}
 use Rattle.ready_set.specs.ReadyLists.{ReadyView, binding_place, queue_place, queue_of, IsBinding, StandsForRows, chosen, IsReadySet}
 use Rattle.ready_set.proofs.RowLemmas.{threads_of, bound_same, from_in_queue, binding_below, filter_yes, filter_no}

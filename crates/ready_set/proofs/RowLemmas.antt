@@ -6,7 +6,8 @@ use Rattle.std.proofs.lemmas.List.Elements.{All-push, All-cons, All-filter, filt
 use Rattle.std.proofs.lemmas.Nat.{same_from_place, mul-add-lt}
 use Rattle.std.proofs.lemmas.Bool.{false≢true, and_from, and_parts, eqb-true, eq-eqb, cond-true, cond-false, cases_eq, cases_Bool, false_from_ne_true}
 use Rattle.rt_plain.specs.kernel.Pick.{ReadyRow, is_bound_so, is_in_queue, ready_queue}
-use Rattle.ready_set.specs.Links.{without, Queued}
+use Rattle.rt_base.specs.Chains.{without}
+use Rattle.ready_set.specs.Links.{Queued}
 use Rattle.ready_set.specs.Levels.{Bitmaps}
 use Rattle.ready_set.specs.ReadyLists.{ReadyView, binding_place, queue_place, queue_of, IsBinding, with_queue, without_thread, StandsForRows, row_of, rows_without, IsReadySet}
 

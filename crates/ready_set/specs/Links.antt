@@ -1,17 +1,12 @@
 -- Queues of threads that are linked in rings: the nodes are the threads, and after them a head for each queue.
-use Rattle.std.specs.Prelude.{ℕ, ◌≡◌, ◌+◌, ◌-◌, ◌<◌, ◌≤◌, zero, suc, cond, nat_lt, ◌==◌, not, Bool, false, List, [], ◌∷◌, length, map, filter, count_by, slice_index, slice_index_or, slice_get, Option, Some, None}
+use Rattle.std.specs.Prelude.{ℕ, ◌≡◌, ◌+◌, ◌-◌, ◌<◌, ◌≤◌, ◌==◌, Bool, false, List, [], ◌∷◌, length, map, count_by, slice_index, slice_index_or, slice_get, Option, Some, None}
 use Rattle.std.specs.List.{range_with_len, list_any}
-use Rattle.std.proofs.Common.{◌⊎◌}
+use Rattle.rt_base.specs.Chains.{walk, is_among, IsChain, IsAmong, IsApart}
 
 -- queues of threads below a number
 pub record Queued : Type 0 where
   pub threads : ℕ
   pub queues : List (List ℕ)
-
--- the threads from a node on, up to a head
-abbrev pub walk : ℕ → ℕ → List ℕ → ℕ → List ℕ
-walk zero threads next node = []
-walk (suc fuel) threads next node = cond (nat_lt node threads) (node ∷ walk fuel threads next (slice_index next node)) []
 
 abbrev pub queue_at : ℕ → List ℕ → ℕ → List ℕ
 queue_at threads next place = walk threads threads next (slice_index next (threads + place))
@@ -19,15 +14,9 @@ queue_at threads next place = walk threads threads next (slice_index next (threa
 abbrev pub queues_of : ℕ → List ℕ → List (List ℕ)
 queues_of threads next = map (queue_at threads next) (range_with_len 0 (length next - threads))
 
-abbrev pub is_among : ℕ → List ℕ → Bool
-is_among thread queue = list_any (λ other. other == thread) queue
-
 -- whether a thread is in one of the queues
 abbrev pub is_queued : List (List ℕ) → ℕ → Bool
 is_queued queues thread = list_any (is_among thread) queues
-
-abbrev pub without : ℕ → List ℕ → List ℕ
-without thread queue = filter (λ other. not (other == thread)) queue
 
 -- 1 where the queue has a thread, else 0
 abbrev pub occupied : List ℕ → ℕ
@@ -39,19 +28,6 @@ abbrev pub IsEmptied : Option ℕ → List (List ℕ) → List (List ℕ) → Ty
 IsEmptied None was now = (p : ℕ) → occupied (slice_index_or now p []) ≡ occupied (slice_index_or was p [])
 IsEmptied (Some place) was now = (place < length was) × (slice_index_or now place [] ≡ [])
     × ((p : ℕ) → (p ≡ place → ⊥) → occupied (slice_index_or now p []) ≡ occupied (slice_index_or was p []))
-
--- the nodes are linked one after another, from a node up to another
-abbrev pub IsChain : List ℕ → List ℕ → ℕ → List ℕ → ℕ → Type 0
-IsChain next prev from [] to = (slice_index next from ≡ to) × (slice_index prev to ≡ from)
-IsChain next prev from (x ∷ xs) to = (slice_index next from ≡ x) × (slice_index prev x ≡ from) × IsChain next prev x xs to
-
-abbrev pub IsAmong : ℕ → List ℕ → Type 0
-IsAmong x [] = ⊥
-IsAmong x (y ∷ ys) = (x ≡ y) ⊎ IsAmong x ys
-
-abbrev pub IsApart : List ℕ → Type 0
-IsApart [] = Unit {0}
-IsApart (x ∷ xs) = (IsAmong x xs → ⊥) × IsApart xs
 
 abbrev pub is_place : ℕ → Option ℕ → Bool
 is_place place None = false

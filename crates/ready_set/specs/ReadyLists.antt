@@ -2,7 +2,8 @@
 use Rattle.std.specs.Prelude.{ℕ, ◌≡◌, ◌+◌, ◌*◌, ◌<◌, ◌≤◌, ◌==◌, Bool, cond, nat_lt, not, List, [], Option, Some, None, length, filter, map, replicate, slice_index_or, slice_set}
 use Rattle.std.specs.List.{All}
 use Rattle.rt_plain.specs.kernel.Pick.{ReadyRow, ready_queue}
-use Rattle.ready_set.specs.Links.{is_queued, without, Queued, occupied}
+use Rattle.rt_base.specs.Chains.{without}
+use Rattle.ready_set.specs.Links.{is_queued, Queued, occupied}
 use Rattle.ready_set.specs.Levels.{Bitmaps, level_bit}
 
 -- the queues stand by binding, unbound first, and then by priority

@@ -1,5 +1,6 @@
 ghost use Rattle.std.specs.Prelude.{◌≡◌, ◌+◌, ◌≤◌, ◌<◌, ◌++◌, ◌∷◌, [], EachIndex, IfOk, IfSome, None, false, true, is_some, length, map, replicate, slice_get, slice_index, slice_index_or, slice_set};
-ghost use Rattle.ready_set.specs.Links.{IsEmptied, is_queued, without};
+ghost use Rattle.rt_base.specs.Chains.{without};
+ghost use Rattle.ready_set.specs.Links.{IsEmptied, is_queued};
 
 use crate::words::Words;
 use rt_base::Steps;

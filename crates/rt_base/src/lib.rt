@@ -1,6 +1,7 @@
 //! Names, texts, lists, numbers and codes that every other crate uses.
 #![tactic(auto)]
 
+mod bounded;
 mod codes;
 mod list;
 mod name;
@@ -10,6 +11,7 @@ mod steps;
 mod tests;
 mod text;
 
+pub use bounded::Bounded;
 pub use codes::{Class, Code, Event, Halt, RunMode, Sleep, WaitOrder};
 pub use list::{AllocFailed, Duplicate, List};
 pub use name::Name;

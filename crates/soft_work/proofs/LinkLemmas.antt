@@ -3,9 +3,10 @@ use Rattle.std.proofs.Common.{ℕ, ◌≡◌, ◌<◌, Bool, true, false, cond, 
 use Rattle.std.proofs.lemmas.List.{length_push, get_or_past, get_or_read}
 use Rattle.std.proofs.lemmas.List.Sums.{count_by-le-length, sum_by-set}
 use Rattle.std.proofs.lemmas.Bool.{false≢true, cases_eq, cases_lt}
-use Rattle.soft_work.specs.WorkLists.{WorkList, is_among, without, IsAmong, IsSound}
+use Rattle.rt_base.specs.Chains.{is_among, without, IsAmong}
+use Rattle.soft_work.specs.WorkLists.{WorkList, IsSound}
 use Rattle.soft_work.specs.Links.{ring_of, IsLinked}
-use Rattle.soft_work.proofs.Chains.{among_from_true, true_from_among, among_push, among_pushed_old, among_pushed_new, apart_push, without_cons_same, without_absent, among_without, among_kept, apart_without, length_without, walk_is, last_among, prev_among, next_among, IsPutIn, IsTakenOut, chain_pushed, chain_without}
+use Rattle.rt_base.proofs.Chains.{among_from_true, true_from_among, among_push, among_pushed_old, among_pushed_new, apart_push, without_cons_same, without_absent, among_without, among_kept, apart_without, length_without, walk_is, last_among, prev_among, next_among, IsPutIn, IsTakenOut, chain_pushed, chain_without}
 
 same_test : (a b : Bool) → (a ≡ true → b ≡ true) → (b ≡ true → a ≡ true) → a ≡ b
 same_test true true f g = refl

@@ -1,5 +1,6 @@
 ghost use Rattle.std.specs.Prelude.{◌≡◌, ◌<◌, ◌++◌, ◌∷◌, [], false, true, drop, slice_get, IfOk, IfSome};
-ghost use Rattle.soft_work.specs.WorkLists.{IsSound, is_among, without};
+ghost use Rattle.rt_base.specs.Chains.{is_among, without};
+ghost use Rattle.soft_work.specs.WorkLists.{IsSound};
 
 use rt_base::ObjNo;
 use std::alloc::{AllocError, Global};

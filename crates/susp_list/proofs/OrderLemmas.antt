@@ -1,6 +1,6 @@
 -- The order of waiters, and the place of one more.
 use Rattle.std.proofs.Common.{ℕ, ◌≡◌, ◌≢◌, ◌+◌, List, [], ◌∷◌, ◌++◌, length, Bool, true, false, cond, not, refl, sym, ap, ◌∙◌, arith}
-use Rattle.std.proofs.lemmas.Bool.{false≢true}
+use Rattle.std.proofs.lemmas.Bool.{false≢true, cond-true, cond-false}
 use Rattle.std.proofs.lemmas.Bool.Decides.{nat_tests}
 use Rattle.rt_base.specs.declared.codes.WaitOrder.{WaitOrder}
 use Rattle.rt_plain.specs.kernel.Waiting.{Waiter, stands_before, put_in_order, in_order}
@@ -17,12 +17,6 @@ stands-trans WaitOrder.Fifo a b c h k = grind (arith, nat_tests)
 stands-trans WaitOrder.Prio a b c h k = grind (arith, nat_tests)
 
 -- the second of two tests in a chain
-if-true : {X : Type 0} (c : Bool) (x y : X) → c ≡ true → cond c x y ≡ x
-if-true c x y e = ap (λ b. cond b x y) e
-
-if-false : {X : Type 0} (c : Bool) (x y : X) → c ≡ false → cond c x y ≡ y
-if-false c x y e = ap (λ b. cond b x y) e
-
 -- what holds of a waiter and of each of a list
 abbrev pub Each : (Waiter → Type 0) → List Waiter → Type 0
 Each P [] = Unit {0}
@@ -52,26 +46,26 @@ split o w [] = record { front = []; rest = []; old = refl; new = refl }
 split o w (c ∷ cs) = by_test (stands_before o w c) refl (split o w cs)
   where
     by_test : (b : Bool) → stands_before o w c ≡ b → Split o w cs → Split o w (c ∷ cs)
-    by_test true e s = record { front = []; rest = c ∷ cs; old = refl; new = if-true _ _ _ e }
-    by_test false e s = record { front = c ∷ s.front; rest = s.rest; old = ap (λ l. c ∷ l) s.old; new = if-false _ _ _ e ∙ ap (λ l. c ∷ l) s.new }
+    by_test true e s = record { front = []; rest = c ∷ cs; old = refl; new = cond-true _ _ _ e }
+    by_test false e s = record { front = c ∷ s.front; rest = s.rest; old = ap (λ l. c ∷ l) s.old; new = cond-false _ _ _ e ∙ ap (λ l. c ∷ l) s.new }
 
 -- the order in which two waiters are put in doesn't matter
 pub put_comm : (o : WaitOrder) (a b : Waiter) (l : List Waiter) → a.thread ≢ b.thread → put_in_order o a (put_in_order o b l) ≡ put_in_order o b (put_in_order o a l)
 put_comm o a b [] h = by_test (stands_before o a b) refl (stands-one_way o a b h)
   where
     by_test : (c : Bool) → stands_before o a b ≡ c → stands_before o a b ≡ not (stands_before o b a) → cond (stands_before o a b) (a ∷ b ∷ []) (b ∷ a ∷ []) ≡ cond (stands_before o b a) (b ∷ a ∷ []) (a ∷ b ∷ [])
-    by_test true e k = if-true _ _ _ e ∙ sym (if-false (stands_before o b a) _ _ (grind arith))
-    by_test false e k = if-false _ _ _ e ∙ sym (if-true (stands_before o b a) _ _ (grind arith))
+    by_test true e k = cond-true _ _ _ e ∙ sym (cond-false (stands_before o b a) _ _ (grind arith))
+    by_test false e k = cond-false _ _ _ e ∙ sym (cond-true (stands_before o b a) _ _ (grind arith))
 put_comm o a b (c ∷ cs) h = by_tests (stands_before o a b) refl (stands_before o a c) refl (stands_before o b c) refl (stands-one_way o a b h) (put_comm o a b cs h)
   where
     Goal : Type 0
     Goal = put_in_order o a (put_in_order o b (c ∷ cs)) ≡ put_in_order o b (put_in_order o a (c ∷ cs))
 
     one : (x y : Waiter) (l : List Waiter) → stands_before o x y ≡ true → put_in_order o x (y ∷ l) ≡ x ∷ y ∷ l
-    one x y l e = if-true _ _ _ e
+    one x y l e = cond-true _ _ _ e
 
     two : (x y : Waiter) (l : List Waiter) → stands_before o x y ≡ false → put_in_order o x (y ∷ l) ≡ y ∷ put_in_order o x l
-    two x y l e = if-false _ _ _ e
+    two x y l e = cond-false _ _ _ e
 
     by_tests : (p : Bool) → stands_before o a b ≡ p → (q : Bool) → stands_before o a c ≡ q → (r : Bool) → stands_before o b c ≡ r → stands_before o a b ≡ not (stands_before o b a)
         → put_in_order o a (put_in_order o b cs) ≡ put_in_order o b (put_in_order o a cs) → put_in_order o a (put_in_order o b (c ∷ cs)) ≡ put_in_order o b (put_in_order o a (c ∷ cs))
@@ -158,10 +152,10 @@ is_false false h = refl
 -- a waiter that stands behind the last of a front and before the first of the rest is put between them
 pub put_between : (o : WaitOrder) (w : Waiter) (a b : List Waiter) → IsStanding o (a ++ b) → IsAfterLast o w a → IsBeforeFirst o w b → put_in_order o w (a ++ b) ≡ a ++ w ∷ b
 put_between o w [] [] s last first = refl
-put_between o w [] (c ∷ b) s last first = if-true _ _ _ first
-put_between o w (c ∷ []) b s last first = if-false _ _ _ last ∙ ap (λ l. c ∷ l) (put_between o w [] b s.1 tt first)
+put_between o w [] (c ∷ b) s last first = cond-true _ _ _ first
+put_between o w (c ∷ []) b s last first = cond-false _ _ _ last ∙ ap (λ l. c ∷ l) (put_between o w [] b s.1 tt first)
 put_between o w (c ∷ d ∷ a) b s last first =
-    if-false _ _ _ (is_false (stands_before o w c) (not_before o w c d a last (front a b s.0))) ∙ ap (λ l. c ∷ l) (put_between o w (d ∷ a) b s.1 last first)
+    cond-false _ _ _ (is_false (stands_before o w c) (not_before o w c d a last (front a b s.0))) ∙ ap (λ l. c ∷ l) (put_between o w (d ∷ a) b s.1 last first)
   where
     front : (a b : List Waiter) → Each (λ v. stands_before o c v ≡ true) (d ∷ a ++ b) → Each (λ v. stands_before o c v ≡ true) (d ∷ a)
     front [] b k = (k.0, tt)

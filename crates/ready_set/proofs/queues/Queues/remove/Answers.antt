@@ -1,5 +1,6 @@
 use Rattle.std.proofs.Common.{arith, ◌<◌, length, map, ap, subst, sym}
-use Rattle.ready_set.specs.Links.{IsEmptied, without}
+use Rattle.rt_base.specs.Chains.{without}
+use Rattle.ready_set.specs.Links.{IsEmptied}
 use Rattle.ready_set.proofs.LinkLemmas.{seen, same_view, neighbours_below, removed_links, emptied_some, emptied_none}
 use Rattle.ready_set.proofs.queues.Queues.remove.Goals as goal
 use Rattle.ready_set.proofs.queues.Queues.remove.Goals.{then-before-after, else-before-after}

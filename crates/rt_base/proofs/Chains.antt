@@ -1,8 +1,7 @@
 -- Chains of linked nodes, and what an edit of the links makes of them.
 use Rattle.std.proofs.Common.{ℕ, ◌≡◌, ◌+◌, ◌<◌, ◌≤◌, zero, suc, true, eqb, ltb, not, List, [], ◌∷◌, ◌++◌, length, slice_index, sym, refl, ap, ◌∙◌, subst, inl, inr, ◌⊎◌, arith}
 use Rattle.std.proofs.lemmas.Bool.{false≢true, or_cases, or_left, or_right, eqb-true, eq-eqb, ne_eqb, cond-true, cond-false, lt-ltb, le-ltb, cases_eq}
-use Rattle.soft_work.specs.WorkLists.{is_among, without, IsAmong, IsApart}
-use Rattle.soft_work.specs.Links.{walk, IsChain}
+use Rattle.rt_base.specs.Chains.{walk, is_among, without, IsChain, IsAmong, IsApart}
 
 pub among_from_true : (x : ℕ) (xs : List ℕ) → is_among x xs ≡ true → IsAmong x xs
 among_from_true x [] h = absurd (false≢true h)
@@ -43,7 +42,7 @@ apart_push x (z ∷ zs) h new = (
   apart_push x zs h.1 (λ later. new (inr later)),
 )
 
--- what stays without a thread
+-- what stays without a number
 pub without_cons_same : (x y : ℕ) (ys : List ℕ) → x ≡ y → without x (y ∷ ys) ≡ without x ys
 without_cons_same x y ys same = cond-false (not (eqb y x)) (y ∷ without x ys) (without x ys) (ap not (eq-eqb y x (sym same)))
 
@@ -119,17 +118,17 @@ chain_kept n p n' p' from (x ∷ xs) to c first nexts prevs last = (
 )
 
 -- the walk over a chain gives its nodes
-pub walk_is : (fuel timers : ℕ) (n p : List ℕ) (from : ℕ) (xs : List ℕ) (to : ℕ) → IsChain n p from xs to → timers ≤ to
-    → ((y : ℕ) → IsAmong y xs → y < timers) → length xs ≤ fuel → walk fuel timers n (slice_index n from) ≡ xs
-walk_is zero timers n p from [] to c high low short = refl
-walk_is zero timers n p from (x ∷ xs) to c high low short = absurd (omega (arith, short))
-walk_is (suc fuel) timers n p from [] to c high low short =
-    ap (λ node. walk (suc fuel) timers n node) c.0
-    ∙ cond-false (ltb to timers) (to ∷ walk fuel timers n (slice_index n to)) [] (le-ltb to timers high)
-walk_is (suc fuel) timers n p from (x ∷ xs) to c high low short =
-    ap (λ node. walk (suc fuel) timers n node) c.0
-    ∙ cond-true (ltb x timers) (x ∷ walk fuel timers n (slice_index n x)) [] (lt-ltb x timers (low x (inl refl)))
-    ∙ ap (λ r. x ∷ r) (walk_is fuel timers n p x xs to c.2 high (λ y h. low y (inr h)) (omega (arith, short)))
+pub walk_is : (fuel bound : ℕ) (n p : List ℕ) (from : ℕ) (xs : List ℕ) (to : ℕ) → IsChain n p from xs to → bound ≤ to
+    → ((y : ℕ) → IsAmong y xs → y < bound) → length xs ≤ fuel → walk fuel bound n (slice_index n from) ≡ xs
+walk_is zero bound n p from [] to c high low short = refl
+walk_is zero bound n p from (x ∷ xs) to c high low short = absurd (omega (arith, short))
+walk_is (suc fuel) bound n p from [] to c high low short =
+    ap (λ node. walk (suc fuel) bound n node) c.0
+    ∙ cond-false (ltb to bound) (to ∷ walk fuel bound n (slice_index n to)) [] (le-ltb to bound high)
+walk_is (suc fuel) bound n p from (x ∷ xs) to c high low short =
+    ap (λ node. walk (suc fuel) bound n node) c.0
+    ∙ cond-true (ltb x bound) (x ∷ walk fuel bound n (slice_index n x)) [] (lt-ltb x bound (low x (inl refl)))
+    ∙ ap (λ r. x ∷ r) (walk_is fuel bound n p x xs to c.2 high (λ y h. low y (inr h)) (omega (arith, short)))
 
 -- the neighbours of a chain's nodes are in it, or its ends
 pub last_among : (n p : List ℕ) (from : ℕ) (xs : List ℕ) (to : ℕ) → IsChain n p from xs to → (slice_index p to ≡ from) ⊎ IsAmong (slice_index p to) xs
@@ -207,6 +206,19 @@ chain_after n p n' p' from x (z ∷ zs) to after c e goes comes nexts prevs apar
           (prevs to (λ is. no_to (inl (is ∙ same))) (inr refl)),
     )
 
+-- put in at the front
+pub chain_fronted : (n p n' p' : List ℕ) (from : ℕ) (xs : List ℕ) (to x after : ℕ) → IsChain n p from xs to → after ≡ slice_index n from
+    → IsPutIn n p n' p' from x after → IsApart xs → (IsAmong from xs → ⊥) → (IsAmong to xs → ⊥) → (IsAmong x xs → ⊥) → (to ≡ x → ⊥)
+    → IsChain n' p' from (x ∷ xs) to
+chain_fronted n p n' p' from xs to x after c e put apart no_from no_to no_x other = (
+  put.next_before,
+  put.prev_node,
+  chain_after n p n' p' from x xs to after c e put.next_node put.prev_after
+      (λ y h. put.next_other y (apart_from y from xs h no_from) (apart_from y x xs h no_x))
+      (λ y not_after h. put.prev_other y not_after (elim h [ inl is ↦ apart_from y x xs is no_x | inr is ↦ λ same. other (sym is ∙ same) ]))
+      apart no_to,
+)
+
 -- taken out from anywhere
 pub chain_without : (n p n' p' : List ℕ) (from : ℕ) (xs : List ℕ) (to x before after : ℕ) → IsChain n p from xs to → IsAmong x xs
     → before ≡ slice_index p x → after ≡ slice_index n x
@@ -238,3 +250,34 @@ chain_without n p n' p' from (y ∷ ys) to x before after c is b a taken apart n
           ) in
           subst (λ w. IsChain n' p' from w to) (sym (without_cons_other x y ys other)) both
     ]
+
+-- in a chain between two ends that differ, no node has one neighbour alone
+neighbours_differ : (n p : List ℕ) (from : ℕ) (xs : List ℕ) (to x : ℕ) → IsChain n p from xs to → IsAmong x xs → (IsAmong from xs → ⊥) → (IsAmong to xs → ⊥) → (from ≡ to → ⊥) → IsApart xs
+    → slice_index p x ≡ slice_index n x → ⊥
+neighbours_differ n p from [] to x c is no_from no_to ends apart same = is
+neighbours_differ n p from (y ∷ ys) to x c (inl here) no_from no_to ends apart same =
+    let one : slice_index n y ≡ from = ap (slice_index n) (sym here) ∙ sym same ∙ ap (slice_index p) here ∙ c.1 in
+    elim (first_among n p y ys to c.2) [
+      | inl last ↦ ends (sym one ∙ last)
+      | inr goes ↦ no_from (inr (subst (λ w. IsAmong w ys) one goes))
+    ]
+neighbours_differ n p from (y ∷ ys) to x c (inr later) no_from no_to ends apart same =
+    neighbours_differ n p y ys to x c.2 later apart.0 (λ h. no_to (inr h)) (λ e. no_to (inl (sym e))) apart.1 same
+
+-- in a ring a node whose neighbours are one is alone
+pub alone : (n p : List ℕ) (head : ℕ) (xs : List ℕ) (x : ℕ) → IsChain n p head xs head → IsAmong x xs → (IsAmong head xs → ⊥) → IsApart xs
+    → slice_index p x ≡ slice_index n x → without x xs ≡ []
+alone n p head [] x c is no_head apart same = refl
+alone n p head (y ∷ []) x c (inl here) no_head apart same = without_cons_same x y [] here
+alone n p head (y ∷ z ∷ zs) x c (inl here) no_head apart same =
+    let one : slice_index n y ≡ head = ap (slice_index n) (sym here) ∙ sym same ∙ ap (slice_index p) here ∙ c.1 in
+    absurd (no_head (inr (inl (sym one ∙ c.2.0))))
+alone n p head (y ∷ ys) x c (inr later) no_head apart same =
+    absurd (neighbours_differ n p y ys head x c.2 later apart.0 (λ h. no_head (inr h)) (λ e. no_head (inl (sym e))) apart.1 same)
+
+-- and one that is alone has one neighbour
+pub one_neighbour : (n p : List ℕ) (head : ℕ) (xs : List ℕ) (x : ℕ) → IsChain n p head xs head → IsAmong x xs → length xs ≡ 1 → slice_index p x ≡ slice_index n x
+one_neighbour n p head [] x c is one = absurd is
+one_neighbour n p head (y ∷ []) x c (inl here) one = ap (slice_index p) here ∙ c.1 ∙ sym c.2.0 ∙ ap (slice_index n) (sym here)
+one_neighbour n p head (y ∷ []) x c (inr never) one = absurd never
+one_neighbour n p head (y ∷ z ∷ zs) x c is one = absurd (omega (arith, one))
