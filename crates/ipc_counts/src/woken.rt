@@ -1,6 +1,6 @@
 ghost use Rattle.std.specs.Prelude.{◌≡◌, ◌<◌, ◌∷◌, ◌++◌, [], length, IfOk};
 
-use rt_base::ThreadNo;
+use rt_base::{Bounded, ThreadNo};
 use std::alloc::{AllocError, Global};
 use std::marker::Model;
 
@@ -8,19 +8,15 @@ use std::marker::Model;
 /// Contracts see them, and for how many threads there is room.
 #[derive(Drop)]
 pub struct WokenFlags {
-    threads: u16,
-    woken: Vec<(ThreadNo, u32)>,
+    woken: Bounded<(ThreadNo, u32)>,
 }
 
 impl Model for WokenFlags {
-    ghost use Rattle.std.specs.Prelude.{◌≤◌, vec_capacity};
     ghost use Rattle.ipc_counts.specs.Flags.{Woken};
 
     ghost Value = { Woken };
 
-    ghost view = { λ w. record { threads = w.threads; woken = w.woken.items } };
-
-    ghost invariant = { λ w. w.threads ≤ vec_capacity w.woken };
+    ghost view = { λ w. record { threads = w.woken.room; woken = w.woken.items } };
 }
 
 impl WokenFlags {
@@ -28,8 +24,9 @@ impl WokenFlags {
     pub fn new(alloc: Global, threads: u16) -> Result<WokenFlags, AllocError>
         ensures { IfOk result (λ w. w ≡ record { threads = threads; woken = [] }) }
     {
-        let woken = Vec::with_capacity(alloc, threads as usize)?;
-        Ok(WokenFlags { threads, woken })
+        Ok(WokenFlags {
+            woken: Bounded::new(alloc, threads as usize)?,
+        })
     }
 
     /// The woken threads, each with the flags that it got.
@@ -51,6 +48,6 @@ impl WokenFlags {
         requires { length self.old.woken < self.old.threads }
         ensures { self.new ≡ record self.old { woken = self.old.woken ++ (thread, flags) ∷ [] } }
     {
-        self.woken.push_reserved((thread, flags));
+        self.woken.push((thread, flags));
     }
 }
