@@ -26,7 +26,7 @@ use Rattle.rt_plain.specs.kernel.Shell.{seen_of, prompt, is_newline, with_consol
 use Rattle.rt_plain.specs.kernel.Statements.{script_of, statement_at, call_effect, done_effect, with_next, repeated_call_effect, script_effect, is_shell, is_soft_thread, statement_effect}
 use Rattle.rt_plain.specs.kernel.DeviceCalls.{is_busy}
 use Rattle.rt_plain.specs.kernel.Pick.{pick}
-use Rattle.rt_plain.specs.kernel.Sleeps.{Did, Same, Halted, sleep_length, sleep_did, final_halt, is_quiet, may_sleep, halting_rest_did, rest_did}
+use Rattle.rt_plain.specs.kernel.Sleeps.{Did, Same, Halted, sleep_length, sleep_did, final_halt, nothing_comes, may_sleep, halting_rest_did, rest_did}
 use Rattle.rt_plain.specs.kernel.Steps.{happens, did_of_effect, is_preemptible, takes_from, without_mark, statement_did, preempt_did, busy_core_did, is_all_idle, free_core_did, core_did, unhalted_step_did, unhalted_tick_did}
 use Rattle.rt_plain.specs.runs.Tickless.{with_tickless}
 use Rattle.rt_plain.proofs.TestLemmas.{and-right}
@@ -200,7 +200,7 @@ pub record IsSleep (b : PlainBoard) (s : State) : Type 0 where
   pub idle : is_all_idle s ≡ true
   pub silent : is_busy s ≡ false
   pub goes_on : final_halt (sleep_mode b s) ≡ None
-  pub waits : is_quiet s ≡ false
+  pub waits : nothing_comes s ≡ false
   pub may : may_sleep b s ≡ true
 
 -- the same board without sleeps
@@ -221,7 +221,7 @@ quiet-agrees b s false sleep = may-agrees b s (may_sleep b s) refl (sleep refl)
 
 halting-agrees : (b : PlainBoard) (s : State) (o : Option Halt) → final_halt (sleep_mode b s) ≡ o → is_all_idle s ≡ true → is_busy s ≡ false → Agrees b s (halting_rest_did (awake b) o s) (halting_rest_did b o s)
 halting-agrees b s (Some halt) mode idle silent = inl refl
-halting-agrees b s None mode idle silent = quiet-agrees b s (is_quiet s) (λ waits may. record { idle = idle; silent = silent; goes_on = mode; waits = waits; may = may })
+halting-agrees b s None mode idle silent = quiet-agrees b s (nothing_comes s) (λ waits may. record { idle = idle; silent = silent; goes_on = mode; waits = waits; may = may })
 
 rest-agrees : (b : PlainBoard) (s : State) (c : Bool) → is_busy s ≡ c → is_all_idle s ≡ true → Agrees b s (if c then Same else halting_rest_did (awake b) (final_halt (sleep_mode b s)) s) (if c then Same else halting_rest_did b (final_halt (sleep_mode b s)) s)
 rest-agrees b s true busy idle = inl refl

@@ -8,7 +8,7 @@ use Rattle.rt_plain.specs.kernel.State.{State, thread_at, running_on, is_nest_of
 use Rattle.rt_plain.specs.kernel.Pick.{ReadyRow, is_free_for, goes_before, first_best, ready_row, ready_rows, pick}
 use Rattle.rt_plain.specs.kernel.Statements.{statement_effect}
 use Rattle.rt_plain.specs.kernel.Ticks.{tick_effect}
-use Rattle.rt_plain.specs.kernel.Sleeps.{Did, Made, Same, Halted, ticks, sleep_did, sleep_length, may_sleep, awake_rest_did, halting_rest_did, is_quiet, final_halt, rest_did}
+use Rattle.rt_plain.specs.kernel.Sleeps.{Did, Made, Same, Halted, ticks, sleep_did, sleep_length, may_sleep, awake_rest_did, halting_rest_did, nothing_comes, final_halt, rest_did}
 use Rattle.rt_plain.specs.kernel.DeviceCalls.{is_busy}
 use Rattle.rt_plain.specs.kernel.PowerCalls.{sleep_mode}
 use Rattle.rt_plain.specs.kernel.Steps.{happens, without_mark, is_preemptible, takes_from, preempt_did, did_of_effect, statement_did, busy_core_did, is_all_idle, free_core_did, core_did, unhalted_step_did, unhalted_tick_did}
@@ -46,7 +46,7 @@ sleep-kept b n now s kept = let rest : KeptAt b (ticks b (n - 1) s).state = tick
 
 halting-kept : (b : PlainBoard) (now : ℕ) (s : State) (o : Option Halt) → Kept (still b now) s → KeptDid b (halting_rest_did b o s)
 halting-kept b now s (Some halt) kept = tt
-halting-kept b now s None kept = if-did b (is_quiet s) (Halted Halt.Quiet) (awake_rest_did b s) (λ is. tt) (λ is. if-did b (may_sleep b s) (sleep_did b (sleep_length b s) s) Same (λ may. sleep-kept b (sleep_length b s) now s kept) (λ may. tt))
+halting-kept b now s None kept = if-did b (nothing_comes s) (Halted Halt.Quiet) (awake_rest_did b s) (λ is. tt) (λ is. if-did b (may_sleep b s) (sleep_did b (sleep_length b s) s) Same (λ may. sleep-kept b (sleep_length b s) now s kept) (λ may. tt))
 
 rest-kept : (b : PlainBoard) (now : ℕ) (s : State) → Kept (still b now) s → KeptDid b (rest_did b s)
 rest-kept b now s kept = if-did b (is_busy s) Same (halting_rest_did b (final_halt (sleep_mode b s)) s) (λ is. tt) (λ is. halting-kept b now s (final_halt (sleep_mode b s)) kept)

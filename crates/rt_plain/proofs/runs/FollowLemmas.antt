@@ -18,7 +18,7 @@ use Rattle.rt_plain.specs.kernel.DeviceCalls.{find_device, with_device, ring_aft
 use Rattle.rt_plain.specs.kernel.PowerCalls.{sleep_mode}
 use Rattle.rt_plain.specs.kernel.Shown.{shown}
 use Rattle.rt_plain.specs.kernel.Ticks.{thread_after_slice, with_slice_used, next_tick_state, alarms_effect, arrivals_now, deliveries, transmissions, with_until_halt, tick_effect}
-use Rattle.rt_plain.specs.kernel.Sleeps.{Did, Made, Same, Halted, ticks, sleep_did, sleep_length, powered_devices, may_sleep, awake_rest_did, halting_rest_did, is_quiet, final_halt, rest_did}
+use Rattle.rt_plain.specs.kernel.Sleeps.{Did, Made, Same, Halted, ticks, sleep_did, sleep_length, powered_devices, may_sleep, awake_rest_did, halting_rest_did, nothing_comes, final_halt, rest_did}
 use Rattle.rt_plain.specs.kernel.Statements.{statement_effect}
 use Rattle.rt_plain.specs.kernel.Pick.{pick}
 use Rattle.rt_plain.specs.kernel.Steps.{happens, with_running, without_mark, preempted_state, is_preemptible, takes_from, preempt_did, did_of_effect, statement_did, busy_core_did, is_all_idle, free_core_did, core_did, unhalted_step_did, unhalted_tick_did}
@@ -242,7 +242,7 @@ module _ (b : PlainBoard) where
 module _ (b : PlainBoard) (now : ℕ) (s : State) (timed : IsProper b) (kept : Kept (still b now) s) where
   halting-follows : (o : Option Halt) → FollowsDid b s (halting_rest_did b o s)
   halting-follows (Some halt) = tt
-  halting-follows None = if-follows b s (is_quiet s) (Halted Halt.Quiet) (awake_rest_did b s) (λ is. tt) (λ is. if-follows b s (may_sleep b s) (sleep_did b (sleep_length b s) s) Same (λ may. sleep-follows b (sleep_length b s) now s kept) (λ may. tt))
+  halting-follows None = if-follows b s (nothing_comes s) (Halted Halt.Quiet) (awake_rest_did b s) (λ is. tt) (λ is. if-follows b s (may_sleep b s) (sleep_did b (sleep_length b s) s) Same (λ may. sleep-follows b (sleep_length b s) now s kept) (λ may. tt))
 
   rest-follows : FollowsDid b s (rest_did b s)
   rest-follows = if-follows b s (is_busy s) Same (halting_rest_did b (final_halt (sleep_mode b s)) s) (λ is. tt) (λ is. halting-follows (final_halt (sleep_mode b s)))

@@ -16,7 +16,7 @@ use Rattle.rt_plain.specs.kernel.DeviceCalls.{is_busy, registered_devices}
 use Rattle.rt_plain.specs.kernel.PowerCalls.{sleep_mode}
 use Rattle.rt_plain.specs.kernel.Statements.{statement_effect}
 use Rattle.rt_plain.specs.kernel.Ticks.{tick_effect}
-use Rattle.rt_plain.specs.kernel.Sleeps.{Did, Made, Same, Halted, ticks, sleep_length, stops_ticks, powered_devices, sleep_effect, sleep_did, may_sleep, awake_rest_did, halting_rest_did, is_quiet, final_halt, rest_did}
+use Rattle.rt_plain.specs.kernel.Sleeps.{Did, Made, Same, Halted, ticks, sleep_length, stops_ticks, powered_devices, sleep_effect, sleep_did, may_sleep, awake_rest_did, halting_rest_did, nothing_comes, final_halt, rest_did}
 use Rattle.rt_plain.specs.kernel.Steps.{happens, with_running, without_mark, preempted_state, with_running, is_preemptible, takes_from, preempt_did, did_of_effect, statement_did, busy_core_did, is_all_idle, free_core_did, core_did, unhalted_step_did, unhalted_tick_did}
 use Rattle.rt_plain.specs.kernel.Opening.{new_sem, new_event, new_mutex, new_mailbox, new_queue, new_timer, new_device, new_console, new_arriving, arrival_moment, unstarted_state, with_auto_timer, open_state}
 use Rattle.rt_plain.specs.kernel.Shown.{shown}
@@ -143,7 +143,7 @@ sleep-fits b now s board sized kept idle silent long = subst (λ (e : Effect). F
 module _ (b : PlainBoard) (now : ℕ) (s : State) (some : 1 ≤ b.thresh) (board : IsSized b) (sized : IsSizedState b s) (kept : Kept (still b now) s) where
   halting-fits : (o : Option Halt) → is_all_idle s ≡ true → is_busy s ≡ false → FitsDid b s (halting_rest_did b o s)
   halting-fits (Some halt) idle silent = tt
-  halting-fits None idle silent = if-fits b s (is_quiet s) (Halted Halt.Quiet) (awake_rest_did b s) (λ is. tt) (λ is. if-fits b s (may_sleep b s) (sleep_did b (sleep_length b s) s) Same (λ may. sleep-fits b now s board sized kept idle silent (long may)) (λ may. tt)) where
+  halting-fits None idle silent = if-fits b s (nothing_comes s) (Halted Halt.Quiet) (awake_rest_did b s) (λ is. tt) (λ is. if-fits b s (may_sleep b s) (sleep_did b (sleep_length b s) s) Same (λ may. sleep-fits b now s board sized kept idle silent (long may)) (λ may. tt)) where
     long : may_sleep b s ≡ true → 1 ≤ sleep_length b s
     long may = omega (arith, some, leb-true b.thresh (sleep_length b s) (and-right (stops_ticks (sleep_mode b s)) _ (and-right b.tickless _ may)))
 

@@ -13,7 +13,7 @@ use Rattle.rt_plain.specs.kernel.DeviceCalls.{is_busy}
 use Rattle.rt_plain.specs.kernel.PowerCalls.{sleep_mode}
 use Rattle.rt_plain.specs.kernel.Pick.{is_free_for, first_best, ReadyRow, ready_row, pick}
 use Rattle.rt_plain.specs.kernel.Ticks.{tick_effect}
-use Rattle.rt_plain.specs.kernel.Sleeps.{Did, Made, Same, Halted, is_empty, is_quiet, final_halt, stops_ticks, sleep_length, sleep_effect, sleep_did, ticks, powered_devices, may_sleep, rest_did}
+use Rattle.rt_plain.specs.kernel.Sleeps.{Did, Made, Same, Halted, is_empty, nothing_comes, final_halt, stops_ticks, sleep_length, sleep_effect, sleep_did, ticks, powered_devices, may_sleep, rest_did}
 use Rattle.rt_plain.specs.kernel.Steps.{happens, is_all_idle, unhalted_step_did, core_did, free_core_did}
 use Rattle.rt_plain.specs.kernel.Shown.{shown}
 use Rattle.rt_plain.specs.kernel.Opening.{open_state}
@@ -128,7 +128,7 @@ record IsResting (b : PlainBoard) (s : State) : Type 0 where
   idle : is_all_idle s ≡ true
   silent : is_busy s ≡ false
   goes_on : final_halt (sleep_mode b s) ≡ None
-  waits : is_quiet s ≡ false
+  waits : nothing_comes s ≡ false
 
 -- it is so later too
 resting-later : (b : PlainBoard) (s : State) (moment : ℕ) → IsResting b s → IsResting b (record s { moment = moment })

@@ -88,8 +88,8 @@ is_empty [] = true
 is_empty (x ∷ xs) = false
 
 -- whether nothing is armed and no arrival is left
-abbrev pub is_quiet : State → Bool
-is_quiet s = is_empty s.armed && is_empty s.arrivals
+abbrev pub nothing_comes : State → Bool
+nothing_comes s = is_empty s.armed && is_empty s.arrivals
 
 -- whether the board sleeps without ticks, in a mode that stops them, and for long enough
 abbrev pub may_sleep : PlainBoard → State → Bool
@@ -102,7 +102,7 @@ awake_rest_did b s = if may_sleep b s then sleep_did b (sleep_length b s) s else
 -- a final mode halts the machine, and so does quiet
 abbrev pub halting_rest_did : PlainBoard → Option Halt → State → Did
 halting_rest_did b (Some halt) s = Halted halt
-halting_rest_did b None s = if is_quiet s then Halted Halt.Quiet else awake_rest_did b s
+halting_rest_did b None s = if nothing_comes s then Halted Halt.Quiet else awake_rest_did b s
 
 -- the sleep rule: a busy device keeps the machine awake
 abbrev pub rest_did : PlainBoard → State → Did
