@@ -95,6 +95,7 @@ impl<T: Drop> Bounded<T> {
     pub fn retain<F: FnMut(&T) -> bool>(&mut self, test: F)
         requires { F.IsAlwaysCallable test }
         ensures filtered { IsFiltered (CalledAt F.FnMut) test self.old.items self.new.items }
+        ensures shorter { length self.new.items ≤ length self.old.items }
         ensures room { self.new.room ≡ self.old.room }
     {
         self.items.retain(test);
