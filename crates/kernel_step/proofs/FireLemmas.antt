@@ -9,7 +9,7 @@ use Rattle.rt_plain.specs.kernel.Calls.{settled_effect}
 use Rattle.rt_plain.specs.kernel.Due.{due, due_rows_effect, timeout_effect}
 use Rattle.rt_plain.specs.kernel.Ticks.{alarms_effect}
 use Rattle.rt_plain.specs.runs.Schedules.{is_sleep}
-use Rattle.rt_kernel.specs.Seen.{KernelSeen}
+use Rattle.rt_kernel.specs.PlainKernel.{PlainKernel}
 use Rattle.rt_kernel.specs.Due.{first_alarm, taken}
 use Rattle.kernel_step.specs.Firing.{IsFiring, rest_effect}
 use Rattle.kernel_step.proofs.StepLemmas.{awake-append}
@@ -36,11 +36,11 @@ rest-none b (suc n) s [] is = (refl, refl)
 rest-none b (suc n) s (row ∷ rows) is = absurd cc
 
 -- before the first row
-pub firing-begun : (k : KernelSeen) (lines : List Line) (room : ℕ) → length lines + 2 * length (due k.state) ≤ room → is_sleep lines ≡ false → IsFiring k k lines lines room
+pub firing-begun : (k : PlainKernel) (lines : List Line) (room : ℕ) → length lines + 2 * length (due k.state) ≤ room → is_sleep lines ≡ false → IsFiring k k lines lines room
 firing-begun k lines room fits awake = record { board = refl; fuel = length (due k.state); enough = omega arith; state = refl; shown = refl; fits = fits; awake = awake; numbers = refl }
 
 -- one row more
-pub firing-more : (old now mid new : KernelSeen) (old_lines lines new_lines : List Line) (room t : ℕ) →
+pub firing-more : (old now mid new : PlainKernel) (old_lines lines new_lines : List Line) (room t : ℕ) →
     IsFiring old now old_lines lines room →
     first_alarm (due now.state) ≡ Some (OfThread t) →
     mid.board ≡ now.board → mid.state ≡ taken now.state (Some (OfThread t)) → length (due mid.state) < length (due now.state) →
@@ -71,11 +71,11 @@ firing-more old now mid new old_lines lines new_lines room t on first board take
     }
 
 -- what is so behind the last row
-abbrev pub Done : KernelSeen → KernelSeen → List Line → List Line → Type 0
+abbrev pub Done : PlainKernel → PlainKernel → List Line → List Line → Type 0
 Done old new old_lines lines = (new.board ≡ old.board) × (new.state ≡ (alarms_effect old.board old.state).state) × (lines ≡ old_lines ++ (alarms_effect old.board old.state).lines) × (new.state.numbers ≡ old.state.numbers)
 
 -- behind the last row
-pub firing-done : (old now mid : KernelSeen) (old_lines lines : List Line) (room : ℕ) →
+pub firing-done : (old now mid : PlainKernel) (old_lines lines : List Line) (room : ℕ) →
     IsFiring old now old_lines lines room → first_alarm (due now.state) ≡ None →
     mid.board ≡ now.board → mid.state ≡ taken now.state None →
     Done old mid old_lines lines

@@ -20,7 +20,7 @@ use Rattle.rt_plain.specs.kernel.DeviceCalls.{is_sending}
 use Rattle.rt_plain.specs.kernel.PowerCalls.{sleep_mode, voted_mode}
 use Rattle.rt_plain.specs.kernel.Sleeps.{Did, Made, Same, Halted, is_empty, rest_did, halting_rest_did, awake_rest_did, final_halt, stops_ticks, sleep_length, sleep_did}
 use Rattle.rt_plain.specs.kernel.Steps.{happens, core_did, free_core_did, busy_core_did, is_all_idle, did_of_effect, is_preemptible, takes_from, without_mark, unhalted_step_did}
-use Rattle.rt_kernel.specs.Seen.{IsAlone}
+use Rattle.rt_kernel.specs.PlainKernel.{IsAlone}
 use Rattle.kernel_step.specs.declared.did.Did.{Did as Answer}
 use Rattle.kernel_step.specs.declared.did.Did.TheVariants.{Halted as Answered, Same as Stayed}
 use Rattle.kernel_step.specs.declared.engine.Engine.{Engine}

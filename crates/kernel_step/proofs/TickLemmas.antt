@@ -11,7 +11,7 @@ use Rattle.rt_plain.specs.kernel.Effects.{Effect, and_then, no_effect}
 use Rattle.rt_plain.specs.kernel.Ticks.{next_tick_state, alarms_effect, deliveries, transmissions, with_until_halt, tick_effect}
 use Rattle.rt_plain.specs.kernel.Sleeps.{Made, Same}
 use Rattle.rt_plain.specs.kernel.Steps.{happens, unhalted_tick_did, did_of_effect}
-use Rattle.rt_kernel.specs.Seen.{IsAlone, KernelSeen}
+use Rattle.rt_kernel.specs.PlainKernel.{IsAlone, PlainKernel}
 use Rattle.kernel_step.specs.declared.engine.Engine.{Engine}
 use Rattle.kernel_step.specs.Whole.{state_of}
 use Rattle.kernel_step.proofs.StepLemmas.{here}
@@ -51,7 +51,7 @@ until_is b a h live is = by_test (a.moment == b.until) is where
   by_test false is = ap (λ (o : Option Halt). record a { halt = o }) (live ∙ sym is)
 
 -- a tick of the machine, by its parts
-pub tick_gives : (k : Engine) (begun fired : KernelSeen) (halt : Option Halt) (old_lines lines : List Line) →
+pub tick_gives : (k : Engine) (begun fired : PlainKernel) (halt : Option Halt) (old_lines lines : List Line) →
     k.halt ≡ None → IsAlone k.kernel.state →
     begun.board ≡ k.kernel.board → begun.state ≡ next_tick_state k.kernel.state →
     fired.board ≡ begun.board → fired.state ≡ (alarms_effect begun.board begun.state).state →

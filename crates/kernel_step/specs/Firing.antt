@@ -7,14 +7,14 @@ use Rattle.rt_plain.specs.kernel.Effects.{Effect}
 use Rattle.rt_plain.specs.kernel.Due.{due, due_rows_effect}
 use Rattle.rt_plain.specs.kernel.Ticks.{alarms_effect}
 use Rattle.rt_plain.specs.runs.Schedules.{is_sleep}
-use Rattle.rt_kernel.specs.Seen.{KernelSeen}
+use Rattle.rt_kernel.specs.PlainKernel.{PlainKernel}
 
 -- the rows that are still due fire, at most so many
 abbrev pub rest_effect : PlainBoard → ℕ → State → Effect
 rest_effect b n s = due_rows_effect b n (due s) s
 
 -- what has fired and what is left make up all that fires
-pub record IsFiring (old now : KernelSeen) (old_lines lines : List Line) (room : ℕ) : Type 0 where
+pub record IsFiring (old now : PlainKernel) (old_lines lines : List Line) (room : ℕ) : Type 0 where
   pub board : now.board ≡ old.board
   pub fuel : ℕ
   pub enough : length (due now.state) ≤ fuel

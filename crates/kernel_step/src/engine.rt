@@ -21,7 +21,7 @@ ghost use Rattle.kernel_step.specs.Whole.{state_of};
 
 use crate::Did;
 use rt_base::{CoreNo, Event, Halt, RunMode, Steps, ThreadNo};
-use rt_kernel::{By, Kernel};
+use rt_kernel::{Caller, Kernel};
 use rt_plain::{Board, Lines, Stmt};
 use std::alloc::{AllocError, Global};
 use std::sync::ledger::Ledger;
@@ -71,7 +71,7 @@ fn go_on<L: Ledger>(
     kernel.know_kernel();
     match kernel.next_statement(t) {
         Stmt::Do(call) => {
-            kernel.call(By::Thread(t, core), &call, out, steps);
+            kernel.call(Caller::Thread(t, core), &call, out, steps);
         }
         statement => kernel.plain(core, &statement, out, steps),
     }

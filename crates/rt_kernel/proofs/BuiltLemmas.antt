@@ -64,6 +64,7 @@ built b valid is =
       shell = no_one b.shell own.0;
       soft = no_one b.soft own.1;
       threads = scripts.1;
+      apart = (valid_stocked b valid).threads.1;
     }
 
 list_all-each : {A : Type 0} (p : A → Bool) (P : A → Type 0) → ((x : A) → p x ≡ true → P x) → (xs : List A) → list_all p xs ≡ true → AllByRecursion P xs

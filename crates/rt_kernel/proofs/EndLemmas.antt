@@ -1,9 +1,9 @@
 -- A thread that stands once at most in a list goes to its end.
 use Rattle.std.proofs.Common.{◌≡◌, ℕ, ◌≤◌, not, arith, List, [], ◌∷◌, ◌++◌, Bool, true, false, ◌||◌, refl, sym, ap, ◌∙◌, length, filter, cond, subst, T, eqb→eq}
-use Rattle.std.specs.Prelude.{◌==◌}
+use Rattle.std.specs.Prelude.{if◌then◌else◌, ◌==◌}
 use Rattle.std.proofs.lemmas.List.{append-nil}
 use Rattle.rt_plain.specs.kernel.State.{is_among}
-use Rattle.rt_kernel.specs.Prio.{to_end}
+use Rattle.rt_kernel.specs.NewBase.{moved_last}
 
 none-left : (xs : List ℕ) → length xs ≤ 0 → xs ≡ []
 none-left [] h = refl
@@ -25,7 +25,7 @@ pub away_none : (t : ℕ) (xs : List ℕ) → is_among xs t ≡ false → filter
 away_none t [] e = refl
 away_none t (x ∷ xs) e = ap (λ c. cond c (x ∷ filter (λ u. u == t) xs) (filter (λ u. u == t) xs)) (or-left (x == t) (is_among xs t) e) ∙ away_none t xs (or-right (x == t) (is_among xs t) e)
 
-pub here_once : (t : ℕ) (xs : List ℕ) → length (filter (λ u. u == t) xs) ≤ 1 → is_among xs t ≡ true → filter (λ u. u == t) xs ≡ t ∷ []
+here_once : (t : ℕ) (xs : List ℕ) → length (filter (λ u. u == t) xs) ≤ 1 → is_among xs t ≡ true → filter (λ u. u == t) xs ≡ t ∷ []
 here_once t [] once e = absurd cc
 here_once t (x ∷ xs) once e = by_case (x == t) refl (here_once t xs) once e
   where
@@ -33,12 +33,9 @@ here_once t (x ∷ xs) once e = by_case (x == t) refl (here_once t xs) once e
     by_case true is rest one among = ap (λ ys. x ∷ ys) (none-left (filter (λ u. u == t) xs) (omega (arith, one))) ∙ ap (λ y. y ∷ []) (eqb→eq x t (subst T (sym is) tt))
     by_case false is rest one among = rest one among
 
--- it is there, and goes to the end
-pub end_moved : (t : ℕ) (xs : List ℕ) → length (filter (λ u. u == t) xs) ≤ 1 → is_among xs t ≡ true → filter (λ u. not (u == t)) xs ++ t ∷ [] ≡ to_end t xs
-end_moved t xs once among = sym (ap (λ ys. filter (λ u. not (u == t)) xs ++ ys) (here_once t xs once among))
-
--- it isn't there
-pub end_kept : (t : ℕ) (xs : List ℕ) → is_among xs t ≡ false → xs ≡ to_end t xs
-end_kept t xs away = sym (ap (λ ys. ys ++ filter (λ u. u == t) xs) (away_stays t xs away) ∙ ap (λ ys. xs ++ ys) (away_none t xs away) ∙ append-nil xs)
-
-pub ruleset ends = (end_moved, end_kept)
+-- so where those that are not the thread stand first and then the thread, it has moved to the end
+pub moved-last : (t : ℕ) (xs : List ℕ) → length (filter (λ u. u == t) xs) ≤ 1 → filter (λ u. not (u == t)) xs ++ filter (λ u. u == t) xs ≡ moved_last t xs
+moved-last t xs once = by_case (is_among xs t) refl where
+  by_case : (c : Bool) → is_among xs t ≡ c → filter (λ u. not (u == t)) xs ++ filter (λ u. u == t) xs ≡ (if c then filter (λ u. not (u == t)) xs ++ t ∷ [] else xs)
+  by_case true among = ap (λ ys. filter (λ u. not (u == t)) xs ++ ys) (here_once t xs once among)
+  by_case false away = ap (λ ys. ys ++ filter (λ u. u == t) xs) (away_stays t xs away) ∙ ap (λ ys. xs ++ ys) (away_none t xs away) ∙ append-nil xs

@@ -8,7 +8,7 @@ use Rattle.rt_plain.specs.declared.stmt.Call.{Call}
 use Rattle.rt_plain.specs.kernel.State.{State, EventObj, thread_at}
 use Rattle.rt_plain.specs.kernel.Effects.{each_effect}
 use Rattle.rt_plain.specs.kernel.Waiting.{waiters, receives_event}
-use Rattle.rt_plain.specs.kernel.Outcome.{ByThread, Outcome, refusal, success, found_outcome, first_wait_outcome}
+use Rattle.rt_plain.specs.kernel.Outcome.{By, First, Outcome, refusal, success, found_outcome, wait_or_refusal}
 use Rattle.rt_plain.specs.kernel.EventCalls.{Want, Wanting, is_satisfied, want_of, with_event, event_recv, event_recv_outcome, event_send, event_send_outcome, satisfied_waiters, flags_left, flags_wake_effect}
 use Rattle.rt_plain.specs.kernel.DeleteCall.{deletion_outcome, event_deletion}
 use Rattle.rt_plain.proofs.text.FieldLemmas.{is_word}
@@ -43,14 +43,14 @@ none-received events want None e = absurd cc
 none-received events want (Some event) e = rw (not-satisfied want event (some-got (flags_got want event) e)) refl
 
 -- and waits
-pub recv-waits : (s : State) (name copy : List ℕ) (want : Want) (timeout : Option ℕ) (t : ℕ) → copy ≡ name → option_map (flags_got want) (found_event s.events name) ≡ Some None
-    → first_wait_outcome s t 0 (Call.EventRecv copy want.mask want.all want.clear timeout) timeout Code.Timeout ≡ event_recv name want timeout s (ByThread t 0)
-recv-waits s name copy want timeout t same e = ap (λ (n : List ℕ). waits n) same ∙ sym (by_found (found_event s.events name) refl e) where
+pub receives_later : (s : State) (name copy : List ℕ) (want : Want) (timeout : Option ℕ) (by : By) → copy ≡ name → option_map (flags_got want) (found_event s.events name) ≡ Some None
+    → wait_or_refusal s by First (Call.EventRecv copy want.mask want.all want.clear timeout) timeout Code.Timeout ≡ event_recv name want timeout s by
+receives_later s name copy want timeout by same e = ap (λ (n : List ℕ). waits n) same ∙ sym (by_found (found_event s.events name) refl e) where
   waits : List ℕ → Outcome
-  waits n = first_wait_outcome s t 0 (Call.EventRecv n want.mask want.all want.clear timeout) timeout Code.Timeout
+  waits n = wait_or_refusal s by First (Call.EventRecv n want.mask want.all want.clear timeout) timeout Code.Timeout
 
   by_found : (o : Option EventObj) → found_event s.events name ≡ o → option_map (flags_got want) o ≡ Some None
-      → found_outcome o (refusal s Code.Inval) (λ event. event_recv_outcome event want timeout s (ByThread t 0)) ≡ waits name
+      → found_outcome o (refusal s Code.Inval) (λ event. event_recv_outcome event want timeout s by) ≡ waits name
   by_found None is e = absurd cc
   by_found (Some event) is e = rw (not-satisfied want event (some-got (flags_got want event) e)) (ap waits (found-name s.events name event is))
 

@@ -1,4 +1,4 @@
--- What the kernel's invariant says of its records.
+-- What the kernel's invariant says of its state.
 use Rattle.std.proofs.Common.{◌≡◌, ◌≢◌, ◌+◌, ◌≤◌, ◌<◌, ◌&&◌, ◌||◌, ℕ, zero, suc, List, [], ◌∷◌, Option, Some, None, Bool, true, false, length, eqb, refl, sym, ap, ◌∙◌, subst, arith, eq-eqb, filter, slice_index, not, cond}
 use Rattle.std.specs.Prelude.{if◌then◌else◌, ◌==◌, nat_lt}
 use Rattle.std.specs.List.{AllByRecursion, list_any, range_with_len}
@@ -24,7 +24,7 @@ use Rattle.rt_plain.proofs.kernel.StepLemmas.{picked-ready}
 use Rattle.rt_plain.proofs.kernel.StatementLemmas.{statement-kept, settled-kept}
 use Rattle.rt_plain.proofs.kernel.WakeLemmas.{wake-kept, close-kept}
 use Rattle.rt_kernel.specs.Due.{first_alarm}
-use Rattle.rt_kernel.specs.Inside.{frame_of}
+use Rattle.rt_kernel.specs.IsKernel.{frame_of}
 use Rattle.rt_kernel.specs.Switched.{switched, switched_by, effect_or, preempt_effect, AreNumbers}
 
 -- what holds under any frame that doesn't end later holds of now
@@ -130,8 +130,8 @@ pub unmarked-kept : (b : PlainBoard) (s : State) (t : ℕ) (c : Bool) → Kept (
 unmarked-kept b s t false kept = kept
 unmarked-kept b s t true kept = still-now b s (without_mark s t) (thread-kept (frame_of b s) s t (record (thread_at s t) { marked = false }) refl (fine-at (frame_of b s) s t kept) kept)
 
-pub stated-kept : (b : PlainBoard) (s : State) (t core : ℕ) → IsProper b → running_on s core ≡ Some t → Kept (frame_of b s) s → Kept (frame_of b (statement_effect b t core s).state) (statement_effect b t core s).state
-stated-kept b s t core proper runs kept = still-now b s (statement_effect b t core s).state (statement-kept (frame_of b s) s t core proper runs kept)
+pub next-kept : (b : PlainBoard) (s : State) (t core : ℕ) → IsProper b → running_on s core ≡ Some t → Kept (frame_of b s) s → Kept (frame_of b (statement_effect b t core s).state) (statement_effect b t core s).state
+next-kept b s t core proper runs kept = still-now b s (statement_effect b t core s).state (statement-kept (frame_of b s) s t core proper runs kept)
 
 pub taken-kept : (b : PlainBoard) (s : State) (alarm : Alarm) → Kept (frame_of b s) s → Kept (frame_of b (without_alarm s alarm)) (without_alarm s alarm)
 taken-kept b s alarm kept = still-now b s (without_alarm s alarm) (without_alarm-kept (frame_of b s) s alarm kept)

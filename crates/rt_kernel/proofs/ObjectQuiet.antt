@@ -17,10 +17,10 @@ use Rattle.rt_kernel.proofs.Quiet.{IsQuiet, IsQuietCall, quiet-self, quiet-then,
 
 -- other objects alone
 quiet-sems : (s : State) (sems : List Sem) → IsFree s → IsQuiet s (record s { sems = sems })
-quiet-sems s sems free = record { free = free; bases = λ u. refl; votes = refl }
+quiet-sems s sems free = record { free = free; bases = λ u. refl; votes = refl; names = λ u. refl }
 
 quiet-events : (s : State) (events : List EventObj) → IsFree s → IsQuiet s (record s { events = events })
-quiet-events s events free = record { free = free; bases = λ u. refl; votes = refl }
+quiet-events s events free = record { free = free; bases = λ u. refl; votes = refl; names = λ u. refl }
 
 -- one action after the other
 quiet-each : {A : Type 0} (act : A → State → Effect) → ((x : A) (s : State) → IsFree s → IsQuiet s (act x s).state) → (xs : List A) (s : State) → IsFree s → IsQuiet s (each_effect act xs s).state
@@ -35,7 +35,7 @@ quiet-woken s code ts free = quiet-each (wake_effect code) (λ t u. quiet-wake u
 quiet-given : (flags : ℕ) (w : Wanting) (s : State) → IsFree s → IsQuiet s (flags_wake_effect flags w s).state
 quiet-given flags w s free =
     let got : State = with_thread s w.thread (record (thread_at s w.thread) { value = bit_and flags w.want.mask }) in
-    quiet-then s got (wake_effect Code.Ok w.thread got).state (quiet-row s w.thread (record (thread_at s w.thread) { value = bit_and flags w.want.mask }) free refl) (quiet-wake got Code.Ok w.thread free)
+    quiet-then s got (wake_effect Code.Ok w.thread got).state (quiet-row s w.thread (record (thread_at s w.thread) { value = bit_and flags w.want.mask }) free refl refl) (quiet-wake got Code.Ok w.thread free)
 
 -- a call that can't be done now
 quiet-first_wait : (s : State) (t core : ℕ) (call : Call) (timeout : Option ℕ) (code : Code) → IsFree s → IsQuietCall s (first_wait_outcome s t core call timeout code)
@@ -72,7 +72,7 @@ quiet-event_recv s name want timeout t core free =
       left event = with_event s (record event { flags = flags_after event.flags want })
 
       got : (event : EventObj) → IsQuiet s (with_thread (left event) t (record (thread_at s t) { value = bit_and event.flags want.mask }))
-      got event = quiet-then s (left event) _ (quiet-events s (left event).events free) (quiet-row (left event) t (record (thread_at s t) { value = bit_and event.flags want.mask }) free refl)
+      got event = quiet-then s (left event) _ (quiet-events s (left event).events free) (quiet-row (left event) t (record (thread_at s t) { value = bit_and event.flags want.mask }) free refl refl)
 
 pub quiet-event_send : (s : State) (name : List ℕ) (mask : ℕ) → IsFree s → IsQuietCall s (event_send name mask s)
 quiet-event_send s name mask free = quiet-found s (find_event s name) (refusal s Code.Inval) _ (quiet-self s free) (λ event. sent event (bit_or event.flags mask)) where

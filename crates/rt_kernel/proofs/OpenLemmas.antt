@@ -10,7 +10,7 @@ use Rattle.rt_plain.proofs.kernel.TickLemmas.{still}
 use Rattle.rt_plain.proofs.kernel.OpenLemmas.{opened-kept}
 use Rattle.rt_kernel.specs.declared.state.State.{State as KernelState}
 use Rattle.rt_kernel.specs.Built.{IsBuilt, is_built_thread}
-use Rattle.rt_kernel.specs.Inside.{frame_of}
+use Rattle.rt_kernel.specs.IsKernel.{frame_of}
 use Rattle.kernel_tables.specs.Opened.{first_tables, MayOpen}
 use Rattle.kernel_tables.specs.Threads.{row_at}
 use Rattle.rt_kernel.specs.View.{state_of}
@@ -20,7 +20,7 @@ use Rattle.rt_kernel.proofs.KeptLemmas.{loosened}
 abbrev pub first_ready : List Thread → List ℕ
 first_ready threads = filter (λ t. not (is_initial (row_at threads t).stage)) (range_with_len 0 (length threads))
 
--- the records of a board before the first statement, by what they stand for
+-- the state of a board before the first statement, by what it stands for
 pub opened : (b : PlainBoard) (k : KernelState) → IsBuilt b → k.moment ≡ 0 → k.numbers ≡ 0 → k.tables ≡ first_tables b → k.ready ≡ first_ready (map new_script_thread b.threads) → k.running ≡ None → k.armed ≡ [] → state_of k ≡ open_state b
 unfolding open_state
 opened b k built moment numbers tables ready running armed = rw (moment, numbers, tables, ready, running, armed, built.shell, built.soft, built.mutexes, built.mailboxes, built.queues, built.pools, built.devices, built.timers, built.arrivals, built.cores) refl

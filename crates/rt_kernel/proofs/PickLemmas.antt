@@ -121,7 +121,7 @@ all-free s core unbound (x ∷ xs) = ap (λ o. cond (is_free_for core o) (ready_
 pub pick-scan : (s : State) (core : ℕ) → IsFree s → IsUnbound s → pick s core ≡ best_from (base_of s) None s.ready
 pick-scan s core free unbound = ap (λ rows. option_map (λ row. row.thread) (first_best rows)) (all-free s core unbound s.ready) ∙ find-map s free unbound s.ready s.ready ∙ find-all (base_of s) s.ready
 
--- the pick of the records
+-- the pick of the kernel's state
 pub pick_kernel : (k : KernelState) → ArePlain k.tables.threads → pick (state_of k) 0 ≡ best_from (base_of (state_of k)) None k.ready
 pick_kernel k plain = pick-scan (state_of k) 0 refl (λ t. (plain t).core)
 

@@ -1,5 +1,5 @@
--- What follows from another base priority.
-use Rattle.std.proofs.Common.{◌≡◌, ℕ, suc, ◌+◌, ◌<◌, ◌&&◌, not, arith, List, [], ◌∷◌, ◌++◌, Option, Some, None, Bool, true, false, refl, sym, ap, ◌∙◌, length, filter, slice_set, slice_index_or, cond, subst}
+-- What follows where a call changes a base priority.
+use Rattle.std.proofs.Common.{◌≡◌, ℕ, suc, ◌+◌, ◌<◌, ◌≤◌, ◌&&◌, not, arith, List, [], ◌∷◌, ◌++◌, Option, Some, None, Bool, true, false, refl, sym, ap, ◌∙◌, length, filter, slice_set, slice_index_or, cond, subst}
 use Rattle.std.specs.Prelude.{if◌then◌else◌, ◌==◌}
 use Rattle.std.specs.List.{cons_option, position_from}
 use Rattle.std.proofs.lemmas.List.{append-nil}
@@ -8,19 +8,18 @@ use Rattle.rt_plain.specs.declared.line.Line.{Line}
 use Rattle.rt_plain.specs.PlainBoard.{PlainBoard}
 use Rattle.rt_plain.specs.kernel.State.{State, Thread, no_thread, thread_at, with_thread, find_thread, is_closed, is_among}
 use Rattle.rt_plain.specs.kernel.Priority.{cur}
-use Rattle.rt_plain.specs.kernel.Effects.{Effect, name_of}
+use Rattle.rt_plain.specs.kernel.Effects.{Effect, and_then, name_of}
 use Rattle.rt_plain.specs.kernel.Outcome.{Outcome, refusal, silent_success, found_outcome}
 use Rattle.rt_plain.specs.kernel.ThreadCalls.{set_prio}
 use Rattle.rt_plain.specs.kernel.Statements.{call_effect, with_next}
 use Rattle.rt_plain.specs.kernel.Calls.{settled_effect, has_new_cur, prio_line}
 use Rattle.rt_plain.proofs.kernel.TallyLemmas.{same-set, other-set, here-set, length-set_at}
-use Rattle.rt_kernel.specs.Called.{called}
-use Rattle.rt_kernel.specs.Prio.{to_end, prio_settled, prio_called}
+use Rattle.rt_kernel.specs.NewBase.{moved_last, changed_base, settle_effect}
 use Rattle.kernel_tables.specs.Threads.{is_found}
 use Rattle.rt_kernel.proofs.CurLemmas.{IsFree, cur-base}
 use Rattle.rt_kernel.proofs.Settled.{settled-one, settled_one}
 use Rattle.rt_kernel.proofs.Quiet.{base-set, quiet-self, call_settles}
-use Rattle.rt_kernel.proofs.EndLemmas.{away_stays, away_none}
+use Rattle.rt_kernel.proofs.EndLemmas.{away_stays, away_none, moved-last}
 
 filter-ext : (p q : ℕ → Bool) → ((x : ℕ) → p x ≡ q x) → (xs : List ℕ) → filter p xs ≡ filter q xs
 filter-ext p q h [] = refl
@@ -56,7 +55,7 @@ among-split : (t : ℕ) (xs : List ℕ) → is_among xs t ≡ false → split_by
 among-split t xs e = ap (λ ys. ys ++ filter (λ u. u == t) xs) (away_stays t xs e) ∙ ap (λ ys. xs ++ ys) (away_none t xs e) ∙ append-nil xs
 
 -- a thread moves where its base is new
-moved-by : (t : ℕ) (xs : List ℕ) (new : Bool) → split_by (λ u. (u == t) && (is_among xs t && new)) xs ≡ (if new then to_end t xs else xs)
+moved-by : (t : ℕ) (xs : List ℕ) (new : Bool) → split_by (λ u. (u == t) && (is_among xs t && new)) xs ≡ (if new then split_by (λ u. u == t) xs else xs)
 moved-by t xs false = split-none (λ u. (u == t) && (is_among xs t && false)) (λ u. ap (λ c. (u == t) && c) (and-false (is_among xs t)) ∙ and-false (u == t)) xs
 moved-by t xs true = by_case (is_among xs t) refl
   where
@@ -96,18 +95,20 @@ found_thread s name u e =
     let same : found.step ≡ u = omega (arith, found.at) in
     (omega (arith, same, found.within), not-true (is_closed (thread_at s u).stage) (and-left _ _ (subst (λ n. is_found name (slice_index_or s.threads n no_thread) ≡ true) same found.passes)))
 
+-- where no base priority changes, nothing follows
+pub nothing-follows : (e : Effect) → and_then e (settle_effect None) ≡ e
+nothing-follows e = ap (λ (lines : List Line). record { state = e.state; lines = lines }) (append-nil e.lines)
+
 -- the effect with another ready list, and a line more
 abbrev settled_as : Effect → List ℕ → Option Line → Effect
 settled_as e ready line = record { state = record (e.state) { ready = ready }; lines = e.lines ++ cons_option line [] }
 
--- setprio by statement k of a thread settles to this
-pub prio_settles : (b : PlainBoard) (s : State) (t k line_no : ℕ) (name : List ℕ) (prio : ℕ) → IsFree s → settled_effect b s (called (with_next s t k) t line_no (set_prio name prio (with_next s t k))) ≡ prio_called (with_next s t k) t line_no name prio
-prio_settles b s t k line_no name prio free = by_found (find_thread next name) refl where
+-- setprio by statement k of a thread, with what follows from it
+pub prio_settles : (b : PlainBoard) (s : State) (t k : ℕ) (line : Option Code → Line) (name : List ℕ) (prio : ℕ) → IsFree s → ((u : ℕ) → length (filter (λ v. v == u) s.ready) ≤ 1)
+    → settled_effect b s (call_effect t line (set_prio name prio (with_next s t k))) ≡ and_then (call_effect t line (set_prio name prio (with_next s t k))) (settle_effect (changed_base (with_next s t k) (find_thread (with_next s t k) name) prio))
+prio_settles b s t k line name prio free once = by_found (find_thread next name) refl where
   next : State
   next = with_next s t k
-
-  line : Option Code → Line
-  line = Line.Done (name_of next t) line_no
 
   act : ℕ → Outcome
   act u = silent_success (with_thread next u (record (thread_at next u) { base = prio }))
@@ -116,7 +117,7 @@ prio_settles b s t k line_no name prio free = by_found (find_thread next name) r
   next-base u = base-set s.threads t u (record (thread_at s t) { next = k }) refl
 
   by_base : (u : ℕ) → u < length next.threads → is_closed (thread_at next u).stage ≡ false → (c : Bool) → ((thread_at next u).base == prio) ≡ c
-      → settled_effect b s (call_effect t line (act u)) ≡ (if c then call_effect t line (act u) else record { state = record ((call_effect t line (act u)).state) { ready = to_end u s.ready }; lines = (call_effect t line (act u)).lines ++ Line.Cur (name_of next u) (thread_at next u).base prio ∷ [] })
+      → settled_effect b s (call_effect t line (act u)) ≡ and_then (call_effect t line (act u)) (settle_effect (if c then None else Some (record { thread = u; old = (thread_at next u).base; new = prio })))
   by_base u there open_stage c is = settled-one b s e u free free others (omega (arith, there, length-set_at next.threads u changed, length-set_at (slice_set next.threads u changed) t answered)) refl ∙ as_new ∙ as_moved ∙ by_case c is where
     changed : Thread
     changed = record (thread_at next u) { base = prio }
@@ -139,9 +140,6 @@ prio_settles b s t k line_no name prio free = by_found (find_thread next name) r
     after-base : (thread_at after u).base ≡ prio
     after-base = sym (base-set mid.threads t u answered refl) ∙ ap (λ (row : Thread). row.base) (here-set next.threads u changed no_thread there)
 
-    after-name : name_of after u ≡ name_of next u
-    after-name = same-set (λ (row : Thread). row.name) mid.threads t u answered no_thread refl ∙ same-set (λ (row : Thread). row.name) next.threads u u changed no_thread refl
-
     after-stage : is_closed (thread_at after u).stage ≡ false
     after-stage = ap is_closed (same-set (λ (row : Thread). row.stage) mid.threads t u answered no_thread refl ∙ same-set (λ (row : Thread). row.stage) next.threads u u changed no_thread refl) ∙ open_stage
 
@@ -158,26 +156,25 @@ prio_settles b s t k line_no name prio free = by_found (find_thread next name) r
     is-new = ap (λ n. not (n == cur after u)) was ∙ ap (λ n. not ((thread_at next u).base == n)) now
 
     shown : Bool → Option Line
-    shown c = if c then Some (Line.Cur (name_of next u) (thread_at next u).base prio) else None
+    shown c = if c then Some (Line.Cur (name_of after u) (thread_at next u).base prio) else None
 
     is-shown : prio_line s after u ≡ shown new
     is-shown = ap (λ d. if not d && has_new_cur s after u then Some (Line.Cur (name_of after u) (cur s u) (cur after u)) else None) after-stage
         ∙ ap (λ d. if d then Some (Line.Cur (name_of after u) (cur s u) (cur after u)) else None) is-new
-        ∙ ap (λ (n : List ℕ). if new then Some (Line.Cur n (cur s u) (cur after u)) else None) after-name
-        ∙ ap (λ n. if new then Some (Line.Cur (name_of next u) n (cur after u)) else None) was
-        ∙ ap (λ n. if new then Some (Line.Cur (name_of next u) (thread_at next u).base n) else None) now
+        ∙ ap (λ n. if new then Some (Line.Cur (name_of after u) n (cur after u)) else None) was
+        ∙ ap (λ n. if new then Some (Line.Cur (name_of after u) (thread_at next u).base n) else None) now
 
     as_new : settled_one u s e ≡ settled_as e (split_by (λ v. (v == u) && (is_among s.ready u && new)) s.ready) (shown new)
     as_new = ap (λ d. settled_as e (split_by (λ v. (v == u) && (is_among s.ready u && d)) s.ready) (prio_line s after u)) is-new
         ∙ ap (settled_as e (split_by (λ v. (v == u) && (is_among s.ready u && new)) s.ready)) is-shown
 
-    as_moved : settled_as e (split_by (λ v. (v == u) && (is_among s.ready u && new)) s.ready) (shown new) ≡ settled_as e (if new then to_end u s.ready else s.ready) (shown new)
-    as_moved = ap (λ (ready : List ℕ). settled_as e ready (shown new)) (moved-by u s.ready new)
+    as_moved : settled_as e (split_by (λ v. (v == u) && (is_among s.ready u && new)) s.ready) (shown new) ≡ settled_as e (if new then moved_last u s.ready else s.ready) (shown new)
+    as_moved = ap (λ (ready : List ℕ). settled_as e ready (shown new)) (moved-by u s.ready new ∙ ap (λ (ready : List ℕ). if new then ready else s.ready) (moved-last u s.ready (once u)))
 
-    by_case : (c : Bool) → ((thread_at next u).base == prio) ≡ c → settled_as e (if new then to_end u s.ready else s.ready) (shown new) ≡ (if c then e else record { state = record (e.state) { ready = to_end u s.ready }; lines = e.lines ++ Line.Cur (name_of next u) (thread_at next u).base prio ∷ [] })
-    by_case true same = ap (λ d. settled_as e (if not d then to_end u s.ready else s.ready) (shown (not d))) same ∙ ap (λ (lines : List Line). record { state = e.state; lines = lines }) (append-nil e.lines)
-    by_case false same = ap (λ d. settled_as e (if not d then to_end u s.ready else s.ready) (shown (not d))) same
+    by_case : (c : Bool) → ((thread_at next u).base == prio) ≡ c → settled_as e (if new then moved_last u s.ready else s.ready) (shown new) ≡ and_then e (settle_effect (if c then None else Some (record { thread = u; old = (thread_at next u).base; new = prio })))
+    by_case true same = ap (λ d. settled_as e (if not d then moved_last u s.ready else s.ready) (shown (not d))) same
+    by_case false same = ap (λ d. settled_as e (if not d then moved_last u s.ready else s.ready) (shown (not d))) same
 
-  by_found : (o : Option ℕ) → find_thread next name ≡ o → settled_effect b s (call_effect t line (found_outcome o (refusal next Code.Inval) act)) ≡ prio_settled next o prio (call_effect t line (found_outcome o (refusal next Code.Inval) act))
-  by_found None is = call_settles b s t k line (refusal next Code.Inval) free (quiet-self next free)
+  by_found : (o : Option ℕ) → find_thread next name ≡ o → settled_effect b s (call_effect t line (found_outcome o (refusal next Code.Inval) act)) ≡ and_then (call_effect t line (found_outcome o (refusal next Code.Inval) act)) (settle_effect (changed_base next o prio))
+  by_found None is = call_settles b s t k line (refusal next Code.Inval) free (quiet-self next free) ∙ sym (nothing-follows (call_effect t line (refusal next Code.Inval)))
   by_found (Some u) is = let there = found_thread next name u is in by_base u there.0 there.1 ((thread_at next u).base == prio) refl

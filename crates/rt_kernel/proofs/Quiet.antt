@@ -1,4 +1,4 @@
--- Actions that change no base priority settle to themselves.
+-- Actions that change no base priority settle to themselves. They keep all names.
 use Rattle.std.proofs.Common.{◌≡◌, ℕ, ◌+◌, ◌-◌, List, [], ◌∷◌, Option, Some, None, Bool, true, false, refl, sym, ap, ◌∙◌, slice_set, slice_index_or}
 use Rattle.std.specs.Prelude.{if◌then◌else◌}
 use Rattle.rt_base.specs.declared.codes.Code.{Code}
@@ -17,47 +17,56 @@ use Rattle.rt_plain.proofs.kernel.TallyLemmas.{same-set}
 use Rattle.rt_kernel.proofs.CurLemmas.{IsFree}
 use Rattle.rt_kernel.proofs.Settled.{KeepsBases, settled-kept}
 
--- nobody owns a mutex, no base changed, and no vote
+-- no thread has another name
+abbrev pub KeepsNames : State → State → Type 0
+KeepsNames before after = (u : ℕ) → (thread_at after u).name ≡ (thread_at before u).name
+
+-- nobody owns a mutex, no base changed, no vote, and no name
 pub record IsQuiet (before after : State) : Type 0 where
   pub free : IsFree after
   pub bases : KeepsBases before after
   pub votes : before.votes ≡ after.votes
+  pub names : KeepsNames before after
 
 -- a write of a row that keeps its base
 pub base-set : (rows : List Thread) (t u : ℕ) (row : Thread) → row.base ≡ (slice_index_or rows t no_thread).base → (slice_index_or rows u no_thread).base ≡ (slice_index_or (slice_set rows t row) u no_thread).base
 base-set rows t u row same = sym (same-set (λ (r : Thread). r.base) rows t u row no_thread same)
 
+-- a write of a row that keeps its name
+pub name-set : (rows : List Thread) (t u : ℕ) (row : Thread) → row.name ≡ (slice_index_or rows t no_thread).name → (slice_index_or (slice_set rows t row) u no_thread).name ≡ (slice_index_or rows u no_thread).name
+name-set rows t u row same = same-set (λ (r : Thread). r.name) rows t u row no_thread same
+
 pub quiet-self : (s : State) → IsFree s → IsQuiet s s
-quiet-self s free = record { free = free; bases = λ u. refl; votes = refl }
+quiet-self s free = record { free = free; bases = λ u. refl; votes = refl; names = λ u. refl }
 
 pub quiet-then : (a b c : State) → IsQuiet a b → IsQuiet b c → IsQuiet a c
-quiet-then a b c one two = record { free = two.free; bases = λ u. one.bases u ∙ two.bases u; votes = one.votes ∙ two.votes }
+quiet-then a b c one two = record { free = two.free; bases = λ u. one.bases u ∙ two.bases u; votes = one.votes ∙ two.votes; names = λ u. two.names u ∙ one.names u }
 
-pub quiet-row : (s : State) (t : ℕ) (row : Thread) → IsFree s → row.base ≡ (thread_at s t).base → IsQuiet s (with_thread s t row)
-quiet-row s t row free same = record { free = free; bases = λ u. base-set s.threads t u row same; votes = refl }
+pub quiet-row : (s : State) (t : ℕ) (row : Thread) → IsFree s → row.base ≡ (thread_at s t).base → row.name ≡ (thread_at s t).name → IsQuiet s (with_thread s t row)
+quiet-row s t row free same named = record { free = free; bases = λ u. base-set s.threads t u row same; votes = refl; names = λ u. name-set s.threads t u row named }
 
 pub quiet-active : (s : State) (t : ℕ) → IsFree s → IsQuiet s (active_state s t)
-quiet-active s t free = record { free = free; bases = λ u. base-set s.threads t u (record (thread_at s t) { stage = Active }) refl; votes = refl }
+quiet-active s t free = record { free = free; bases = λ u. base-set s.threads t u (record (thread_at s t) { stage = Active }) refl; votes = refl; names = λ u. name-set s.threads t u (record (thread_at s t) { stage = Active }) refl }
 
 pub quiet-wake : (s : State) (code : Code) (t : ℕ) → IsFree s → IsQuiet s (wake_effect code t s).state
 quiet-wake s code t free =
     let coded : State = with_thread s t (record (thread_at s t) { code = code }) in
-    quiet-then s coded (active_state coded t) (quiet-row s t (record (thread_at s t) { code = code }) free refl) (quiet-active coded t free)
+    quiet-then s coded (active_state coded t) (quiet-row s t (record (thread_at s t) { code = code }) free refl refl) (quiet-active coded t free)
 
 pub quiet-alarm : (s : State) (alarm : Alarm) (due : Option ℕ) → IsFree s → IsQuiet s (with_alarm s alarm due)
 quiet-alarm s alarm None free = quiet-self s free
-quiet-alarm s alarm (Some due) free = record { free = free; bases = λ u. refl; votes = refl }
+quiet-alarm s alarm (Some due) free = record { free = free; bases = λ u. refl; votes = refl; names = λ u. refl }
 
 pub quiet-waiting : (s : State) (t : ℕ) (what : Awaited) (due : Option ℕ) → IsFree s → IsQuiet s (waiting_state s t what due)
-quiet-waiting s t what None free = record { free = free; bases = λ u. base-set s.threads t u (record (thread_at s t) { stage = Waiting what s.numbers }) refl; votes = refl }
-quiet-waiting s t what (Some due) free = record { free = free; bases = λ u. base-set s.threads t u (record (thread_at s t) { stage = Waiting what s.numbers }) refl; votes = refl }
+quiet-waiting s t what None free = record { free = free; bases = λ u. base-set s.threads t u (record (thread_at s t) { stage = Waiting what s.numbers }) refl; votes = refl; names = λ u. name-set s.threads t u (record (thread_at s t) { stage = Waiting what s.numbers }) refl }
+quiet-waiting s t what (Some due) free = record { free = free; bases = λ u. base-set s.threads t u (record (thread_at s t) { stage = Waiting what s.numbers }) refl; votes = refl; names = λ u. name-set s.threads t u (record (thread_at s t) { stage = Waiting what s.numbers }) refl }
 
 pub quiet-suspended : (s : State) (t : ℕ) → IsFree s → IsQuiet s (suspended_state s t)
-quiet-suspended s t free = record { free = free; bases = λ u. base-set s.threads t u (record (thread_at s t) { stage = Suspended }) refl; votes = refl }
+quiet-suspended s t free = record { free = free; bases = λ u. base-set s.threads t u (record (thread_at s t) { stage = Suspended }) refl; votes = refl; names = λ u. name-set s.threads t u (record (thread_at s t) { stage = Suspended }) refl }
 
 -- a thread that ends, where nobody owns a mutex
 pub quiet-closed : (s : State) (t : ℕ) → IsFree s → (close_effect t s ≡ line_effect (withdrawn_state s t) (Line.Close (thread_at s t).name)) × IsQuiet s (close_effect t s).state
-quiet-closed s t free = (shown, record { free = ap (λ (x : State). x.holdings) states ∙ free; bases = λ u. base-set s.threads t u (record (thread_at s t) { stage = Closed; retry = None }) refl ∙ ap (λ (x : State). (thread_at x u).base) (sym states); votes = ap (λ (x : State). x.votes) (sym states) }) where
+quiet-closed s t free = (shown, record { free = ap (λ (x : State). x.holdings) states ∙ free; bases = λ u. base-set s.threads t u (record (thread_at s t) { stage = Closed; retry = None }) refl ∙ ap (λ (x : State). (thread_at x u).base) (sym states); votes = ap (λ (x : State). x.votes) (sym states); names = λ u. ap (λ (x : State). (thread_at x u).name) states ∙ name-set s.threads t u (record (thread_at s t) { stage = Closed; retry = None }) refl }) where
   shown : close_effect t s ≡ line_effect (withdrawn_state s t) (Line.Close (thread_at s t).name)
   shown = rw free refl
 
@@ -65,7 +74,7 @@ quiet-closed s t free = (shown, record { free = ap (λ (x : State). x.holdings) 
   states = ap (λ (e : Effect). e.state) shown
 
 pub quiet-answer : (s : State) (t : ℕ) (answer : Answer) → IsFree s → IsQuiet s (with_answer t answer s)
-quiet-answer s t (Answers code) free = quiet-row s t (record (thread_at s t) { code = code }) free refl
+quiet-answer s t (Answers code) free = quiet-row s t (record (thread_at s t) { code = code }) free refl refl
 quiet-answer s t Waits free = quiet-self s free
 
 -- the outcome of a call that is quiet
@@ -84,7 +93,7 @@ pub quiet-wait : (s : State) (t core : ℕ) (what : Awaited) (due : Option ℕ) 
 quiet-wait s t core what due free = quiet-if s (may_not_wait s t core) (refusal s Code.Error) (record { effect = record { state = waiting_state s t what due; lines = [] }; answer = Waits }) (quiet-self s free) (quiet-waiting s t what due free)
 
 pub quiet-yield : (s : State) (t core : ℕ) → IsFree s → IsQuietCall s (yield s (ByThread t core))
-quiet-yield s t core free = quiet-row s t (record (thread_at s t) { left = (thread_at s t).slice; marked = true }) free refl
+quiet-yield s t core free = quiet-row s t (record (thread_at s t) { left = (thread_at s t).slice; marked = true }) free refl refl
 
 pub quiet-startup : (s : State) (name : List ℕ) → IsFree s → IsQuietCall s (startup name s)
 quiet-startup s name free = quiet-found s (find_thread s name) (refusal s Code.Inval) _ (quiet-self s free) (λ t. quiet-if s _ _ (refusal s Code.Error) (quiet-active s t free) (quiet-self s free))
@@ -105,16 +114,21 @@ pub quiet-kill : (s : State) (name : List ℕ) → IsFree s → IsQuietCall s (k
 quiet-kill s name free = quiet-found s (find_thread s name) (refusal s Code.Inval) _ (quiet-self s free) (λ t. (quiet-closed s t free).1)
 
 pub quiet-sched_lock : (s : State) (t core : ℕ) → IsFree s → IsQuietCall s (sched_lock s (ByThread t core))
-quiet-sched_lock s t core free = quiet-if s _ (refusal s Code.Full) _ (quiet-self s free) (quiet-row s t (record (thread_at s t) { locks = (thread_at s t).locks + 1 }) free refl)
+quiet-sched_lock s t core free = quiet-if s _ (refusal s Code.Full) _ (quiet-self s free) (quiet-row s t (record (thread_at s t) { locks = (thread_at s t).locks + 1 }) free refl refl)
 
 pub quiet-sched_unlock : (s : State) (t core : ℕ) → IsFree s → IsQuietCall s (sched_unlock s (ByThread t core))
-quiet-sched_unlock s t core free = quiet-if s _ (refusal s Code.Error) _ (quiet-self s free) (quiet-row s t _ free refl)
+quiet-sched_unlock s t core free = quiet-if s _ (refusal s Code.Error) _ (quiet-self s free) (quiet-row s t _ free refl refl)
 
--- a statement of a thread that makes such a call settles to itself
+-- a statement of a thread that makes such a call is quiet
+pub quiet-call : (s : State) (t k : ℕ) (line : Option Code → Line) (outcome : Outcome) → IsFree s → IsQuietCall (with_next s t k) outcome → IsQuiet s (call_effect t line outcome).state
+quiet-call s t k line outcome free quiet =
+    let next : State = with_next s t k in
+    quiet-then s next _ (quiet-row s t (record (thread_at s t) { next = k }) free refl refl) (quiet-then next outcome.effect.state _ quiet (quiet-answer outcome.effect.state t outcome.answer quiet.free))
+
+-- and settles to itself
 pub call_settles : (b : PlainBoard) (s : State) (t k : ℕ) (line : Option Code → Line) (outcome : Outcome) → IsFree s → IsQuietCall (with_next s t k) outcome → settled_effect b s (call_effect t line outcome) ≡ call_effect t line outcome
 call_settles b s t k line outcome free quiet =
-    let next : State = with_next s t k in
-    let all : IsQuiet s (with_answer t outcome.answer outcome.effect.state) = quiet-then s next _ (quiet-row s t (record (thread_at s t) { next = k }) free refl) (quiet-then next outcome.effect.state _ quiet (quiet-answer outcome.effect.state t outcome.answer quiet.free)) in
+    let all : IsQuiet s (call_effect t line outcome).state = quiet-call s t k line outcome free quiet in
     settled-kept b s (call_effect t line outcome) free all.free all.bases all.votes
 
 -- what a statement that is no call does
@@ -127,22 +141,22 @@ quiet-plain script s t (Stmt.Say what) free = by_text (said_text what (thread_at
   by_text : (text : List ℕ) → IsQuiet s (print_effect text s).state
   by_text [] = quiet-self s free
   by_text (byte ∷ bytes) = quiet-self s free
-quiet-plain script s t (Stmt.Goto k) free = quiet-row s t (record (thread_at s t) { next = target script k }) free refl
+quiet-plain script s t (Stmt.Goto k) free = quiet-row s t (record (thread_at s t) { next = target script k }) free refl refl
 quiet-plain script s t (Stmt.IfCode code k) free = by_test _ where
   by_test : (c : Bool) → IsQuiet s (if c then with_next s t (target script k) else s)
-  by_test true = quiet-row s t (record (thread_at s t) { next = target script k }) free refl
+  by_test true = quiet-row s t (record (thread_at s t) { next = target script k }) free refl refl
   by_test false = quiet-self s free
-quiet-plain script s t (Stmt.Count n) free = quiet-row s t (with_counter (thread_at s t) n) free refl
+quiet-plain script s t (Stmt.Count n) free = quiet-row s t (with_counter (thread_at s t) n) free refl refl
 quiet-plain script s t (Stmt.Next k) free = by_test _ where
   lowered : State
   lowered = with_thread s t (with_counter (thread_at s t) ((thread_at s t).counter - 1))
 
   low : IsQuiet s lowered
-  low = quiet-row s t (with_counter (thread_at s t) ((thread_at s t).counter - 1)) free refl
+  low = quiet-row s t (with_counter (thread_at s t) ((thread_at s t).counter - 1)) free refl refl
 
   by_test : (c : Bool) → IsQuiet s (if c then lowered else with_next lowered t (target script k))
   by_test true = low
-  by_test false = quiet-then s lowered _ low (quiet-row lowered t (record (thread_at lowered t) { next = target script k }) free refl)
+  by_test false = quiet-then s lowered _ low (quiet-row lowered t (record (thread_at lowered t) { next = target script k }) free refl refl)
 quiet-plain script s t Stmt.Exit free = (quiet-closed s t free).1
 quiet-plain script s t (Stmt.Do call) free = quiet-self s free
 

@@ -8,7 +8,7 @@ use Rattle.rt_plain.specs.declared.stmt.Call.{Call}
 use Rattle.rt_plain.specs.kernel.State.{State, Sem}
 use Rattle.rt_plain.specs.kernel.Effects.{each_effect}
 use Rattle.rt_plain.specs.kernel.Waiting.{waiters, first_waiter, head_of, takes_sem}
-use Rattle.rt_plain.specs.kernel.Outcome.{ByThread, Outcome, refusal, success, silent_success, found_outcome, first_wait_outcome}
+use Rattle.rt_plain.specs.kernel.Outcome.{By, First, Outcome, refusal, success, silent_success, found_outcome, wait_or_refusal}
 use Rattle.rt_plain.specs.kernel.SemCalls.{with_sem, sem_take, sem_take_outcome, sem_release, sem_release_outcome}
 use Rattle.rt_plain.specs.kernel.DeleteCall.{deletion_outcome, sem_deletion}
 use Rattle.rt_plain.proofs.text.FieldLemmas.{is_word}
@@ -36,13 +36,13 @@ none-taken sems None e = absurd cc
 none-taken sems (Some sem) e = rw (some-value (nat_lt 0 sem.value) e) refl
 
 -- and waits
-pub take-waits : (s : State) (name copy : List ℕ) (timeout : Option ℕ) (t : ℕ) → copy ≡ name → option_map (λ (sem : Sem). nat_lt 0 sem.value) (found_sem s.sems name) ≡ Some false
-    → first_wait_outcome s t 0 (Call.SemTake copy timeout) timeout Code.Timeout ≡ sem_take name timeout s (ByThread t 0)
-take-waits s name copy timeout t same e = ap (λ (n : List ℕ). first_wait_outcome s t 0 (Call.SemTake n timeout) timeout Code.Timeout) same ∙ sym (by_found (found_sem s.sems name) refl e) where
+pub takes_later : (s : State) (name copy : List ℕ) (timeout : Option ℕ) (by : By) → copy ≡ name → option_map (λ (sem : Sem). nat_lt 0 sem.value) (found_sem s.sems name) ≡ Some false
+    → wait_or_refusal s by First (Call.SemTake copy timeout) timeout Code.Timeout ≡ sem_take name timeout s by
+takes_later s name copy timeout by same e = ap (λ (n : List ℕ). wait_or_refusal s by First (Call.SemTake n timeout) timeout Code.Timeout) same ∙ sym (by_found (found_sem s.sems name) refl e) where
   by_found : (o : Option Sem) → found_sem s.sems name ≡ o → option_map (λ (sem : Sem). nat_lt 0 sem.value) o ≡ Some false
-      → found_outcome o (refusal s Code.Inval) (λ sem. sem_take_outcome sem timeout s (ByThread t 0)) ≡ first_wait_outcome s t 0 (Call.SemTake name timeout) timeout Code.Timeout
+      → found_outcome o (refusal s Code.Inval) (λ sem. sem_take_outcome sem timeout s by) ≡ wait_or_refusal s by First (Call.SemTake name timeout) timeout Code.Timeout
   by_found None is e = absurd cc
-  by_found (Some sem) is e = rw (some-value (nat_lt 0 sem.value) e) (ap (λ (n : List ℕ). first_wait_outcome s t 0 (Call.SemTake n timeout) timeout Code.Timeout) (found-name s.sems name sem is))
+  by_found (Some sem) is e = rw (some-value (nat_lt 0 sem.value) e) (ap (λ (n : List ℕ). wait_or_refusal s by First (Call.SemTake n timeout) timeout Code.Timeout) (found-name s.sems name sem is))
 
 -- what a deletion does, and that those who wake are there
 pub sem-deletes : (s : State) (name : List ℕ) (woken : List ℕ) → IsFree s → true ≡ is_some (found_sem s.sems name) → ((sem : Sem) → found_sem s.sems name ≡ Some sem → woken ≡ sem_line s.threads sem)

@@ -13,11 +13,11 @@ use Rattle.rt_plain.specs.kernel.Statements.{script_of, statement_at, statement_
 use Rattle.rt_plain.specs.kernel.Shell.{shell_effect}
 use Rattle.rt_plain.specs.kernel.SoftTurn.{soft_effect}
 use Rattle.rt_plain.proofs.kernel.TallyLemmas.{same-set}
-use Rattle.rt_kernel.specs.Own.{begun, next_call}
-use Rattle.rt_kernel.specs.Plain.{is_plain, plain_did}
+use Rattle.rt_kernel.specs.NextCall.{begun, next_call}
+use Rattle.rt_kernel.specs.Plain.{is_plain, next_plain}
 use Rattle.rt_kernel.proofs.CurLemmas.{IsFree}
 use Rattle.rt_kernel.proofs.Settled.{settled-kept}
-use Rattle.rt_kernel.proofs.Quiet.{IsQuiet, quiet-then, quiet-row, quiet-plain}
+use Rattle.rt_kernel.proofs.Quiet.{IsQuiet, KeepsNames, quiet-then, quiet-row, quiet-plain}
 
 -- of one core, only the first runs a thread
 pub first_core : (o : Option ℕ) (core t : ℕ) → slice_index_or (o ∷ []) core None ≡ Some t → (core ≡ 0) × (o ≡ Some t)
@@ -38,14 +38,13 @@ scripted b s t core st shell soft retry is =
     ∙ ap (λ (x : Stmt). settled_effect b s (done_effect b t core (thread_at s t).name (thread_at s t).next x (begun s t))) is
 
 -- a call
-pub call_is : (b : PlainBoard) (s : State) (t core : ℕ) (call : Call) → b.shell ≡ None → b.soft ≡ None → core ≡ 0 → (thread_at s t).retry ≡ None → statement_at (script_of b (thread_at s t).name) (thread_at s t).next ≡ Stmt.Do call → statement_effect b t core s ≡ settled_effect b s (next_call b t call s)
-call_is b s t core call shell soft first retry is =
-    ap (λ n. statement_effect b t n s) first
-    ∙ scripted b s t 0 (Stmt.Do call) shell soft retry is
-    ∙ ap (λ (name : List ℕ). settled_effect b s (call_effect t (Line.Done name (thread_at s t).next) (outcome_of b call (begun s t) (ByThread t 0) First))) (sym (same-set (λ (row : Thread). row.name) s.threads t t (record (thread_at s t) { next = (thread_at s t).next + 1 }) no_thread refl))
+pub call_is : (b : PlainBoard) (s : State) (t core : ℕ) (call : Call) → b.shell ≡ None → b.soft ≡ None → (thread_at s t).retry ≡ None → statement_at (script_of b (thread_at s t).name) (thread_at s t).next ≡ Stmt.Do call → statement_effect b t core s ≡ settled_effect b s (next_call b t core call s).effect
+call_is b s t core call shell soft retry is =
+    scripted b s t core (Stmt.Do call) shell soft retry is
+    ∙ ap (λ (name : List ℕ). settled_effect b s (call_effect t (Line.Done name (thread_at s t).next) (outcome_of b call (begun s t) (ByThread t core) First))) (sym (same-set (λ (row : Thread). row.name) s.threads t t (record (thread_at s t) { next = (thread_at s t).next + 1 }) no_thread refl))
 
 -- a statement that is no call
-done-plain : (b : PlainBoard) (s : State) (t core : ℕ) (st : Stmt) → is_plain st ≡ true → done_effect b t core (thread_at s t).name (thread_at s t).next st (begun s t) ≡ plain_did (script_of b (thread_at s t).name) t st s
+done-plain : (b : PlainBoard) (s : State) (t core : ℕ) (st : Stmt) → is_plain st ≡ true → done_effect b t core (thread_at s t).name (thread_at s t).next st (begun s t) ≡ next_plain (script_of b (thread_at s t).name) t st s
 done-plain b s t core (Stmt.Print text) is = refl
 done-plain b s t core (Stmt.Say what) is = refl
 done-plain b s t core (Stmt.Goto k) is = refl
@@ -55,9 +54,16 @@ done-plain b s t core (Stmt.Next k) is = refl
 done-plain b s t core Stmt.Exit is = refl
 done-plain b s t core (Stmt.Do call) is = absurd cc
 
-pub plain_is : (b : PlainBoard) (s : State) (t core : ℕ) (st : Stmt) → IsFree s → b.shell ≡ None → b.soft ≡ None → is_plain st ≡ true → (thread_at s t).retry ≡ None → statement_at (script_of b (thread_at s t).name) (thread_at s t).next ≡ st → statement_effect b t core s ≡ plain_did (script_of b (thread_at s t).name) t st s
+-- it is quiet
+quiet-next_plain : (s : State) (script : List Stmt) (t : ℕ) (st : Stmt) → IsFree s → IsQuiet s (next_plain script t st s).state
+quiet-next_plain s script t st free = quiet-then s (begun s t) (next_plain script t st s).state (quiet-row s t (record (thread_at s t) { next = (thread_at s t).next + 1 }) free refl refl) (quiet-plain script (begun s t) t st free)
+
+pub plain-names : (s : State) (script : List Stmt) (t : ℕ) (st : Stmt) → IsFree s → KeepsNames s (next_plain script t st s).state
+plain-names s script t st free = (quiet-next_plain s script t st free).names
+
+pub plain_is : (b : PlainBoard) (s : State) (t core : ℕ) (st : Stmt) → IsFree s → b.shell ≡ None → b.soft ≡ None → is_plain st ≡ true → (thread_at s t).retry ≡ None → statement_at (script_of b (thread_at s t).name) (thread_at s t).next ≡ st → statement_effect b t core s ≡ next_plain (script_of b (thread_at s t).name) t st s
 plain_is b s t core st free shell soft plain retry is =
     let script : List Stmt = script_of b (thread_at s t).name in
-    let did : Effect = plain_did script t st s in
-    let quiet : IsQuiet s did.state = quiet-then s (begun s t) did.state (quiet-row s t (record (thread_at s t) { next = (thread_at s t).next + 1 }) free refl) (quiet-plain script (begun s t) t st free) in
-    scripted b s t core st shell soft retry is ∙ ap (settled_effect b s) (done-plain b s t core st plain) ∙ settled-kept b s did free quiet.free quiet.bases quiet.votes
+    let effect : Effect = next_plain script t st s in
+    let quiet : IsQuiet s effect.state = quiet-next_plain s script t st free in
+    scripted b s t core st shell soft retry is ∙ ap (settled_effect b s) (done-plain b s t core st plain) ∙ settled-kept b s effect free quiet.free quiet.bases quiet.votes

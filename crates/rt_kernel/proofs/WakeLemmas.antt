@@ -17,16 +17,15 @@ use Rattle.rt_plain.specs.kernel.Waiting.{waiters}
 use Rattle.rt_plain.proofs.kernel.Invariant.{is-there, waiting-open}
 use Rattle.rt_plain.proofs.kernel.TallyLemmas.{all-weaker, same-set, here-set, length-set_at}
 use Rattle.rt_plain.proofs.kernel.WakeLemmas.{waiters-wait}
-use Rattle.rt_kernel.specs.Followed.{followed}
 use Rattle.rt_kernel.specs.declared.state.State.{State as KernelState}
 use Rattle.kernel_tables.specs.Tabled.{Tabled, line_of, woken_row, given_row, all_woken, all_given}
 use Rattle.kernel_tables.specs.Threads.{with_row, row_at}
 use Rattle.rt_kernel.specs.View.{state_of}
-use Rattle.rt_kernel.specs.Wake.{follow_effect}
+use Rattle.rt_kernel.specs.Wake.{followed, follow_effect}
 use Rattle.rt_kernel.proofs.CurLemmas.{IsFree}
 use Rattle.rt_kernel.proofs.WaiterLemmas.{waiters-line}
 
--- the records on other tables
+-- the state on other tables
 abbrev pub on : KernelState → Tabled → State
 on r k = state_of (record r { tables = k })
 

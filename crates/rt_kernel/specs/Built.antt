@@ -1,5 +1,5 @@
 -- Which boards the kernel runs so far. This test goes away once all is built.
-use Rattle.std.specs.Prelude.{◌≡◌, ◌≤◌, [], IsTrue, Bool, true, false, not, ◌&&◌, None, length, is_some, ◌==◌}
+use Rattle.std.specs.Prelude.{◌≡◌, ◌≢◌, ◌≤◌, AllPairs, [], IsTrue, Bool, true, not, ◌&&◌, Option, Some, None, length, is_some, ◌==◌}
 use Rattle.std.specs.List.{list_all, AllByRecursion}
 use Rattle.rt_base.specs.declared.codes.Class.{Class}
 use Rattle.rt_plain.specs.declared.board.ThreadDef.{ThreadDef}
@@ -7,33 +7,38 @@ use Rattle.rt_plain.specs.declared.stmt.Call.{Call}
 use Rattle.rt_plain.specs.declared.stmt.Stmt.{Stmt}
 use Rattle.rt_plain.specs.PlainBoard.{PlainBoard}
 use Rattle.rt_plain.specs.kernel.Sound.{IsProper, IsSized}
+use Rattle.rt_kernel.specs.declared.built.Subject.{Subject}
 use Rattle.kernel_tables.specs.Opened.{HasFittingObjects}
 
--- the classes of which objects are made and deleted
-abbrev pub is_built_class : Class → Bool
-is_built_class Class.Sem = true
-is_built_class Class.Event = true
-is_built_class _ = false
+-- the objects on which a deletion works, of the classes that are built
+abbrev pub subject_of_class : Class → Option Subject
+subject_of_class Class.Sem = Some Subject.Sem
+subject_of_class Class.Event = Some Subject.Event
+subject_of_class _ = None
 
--- a call on threads, or one on semaphores and event objects
+-- the objects on which a call works, if it is built
+abbrev pub subject_of : Call → Option Subject
+subject_of (Call.Delay ticks) = Some Subject.Thread
+subject_of Call.Yield = Some Subject.Thread
+subject_of (Call.Startup name) = Some Subject.Thread
+subject_of (Call.Suspend name) = Some Subject.Thread
+subject_of (Call.Resume name) = Some Subject.Thread
+subject_of (Call.Kill name) = Some Subject.Thread
+subject_of (Call.SetPrio name prio) = Some Subject.Thread
+subject_of Call.SchedLock = Some Subject.Thread
+subject_of Call.SchedUnlock = Some Subject.Thread
+subject_of (Call.SemCreate name value order) = Some Subject.Sem
+subject_of (Call.SemTake name timeout) = Some Subject.Sem
+subject_of (Call.SemRelease name) = Some Subject.Sem
+subject_of (Call.EventCreate name order) = Some Subject.Event
+subject_of (Call.EventSend name mask) = Some Subject.Event
+subject_of (Call.EventRecv name mask all clear timeout) = Some Subject.Event
+subject_of (Call.Delete class name) = subject_of_class class
+subject_of _ = None
+
+-- whether a call is built
 abbrev pub is_built_call : Call → Bool
-is_built_call (Call.Delay ticks) = true
-is_built_call Call.Yield = true
-is_built_call (Call.Startup name) = true
-is_built_call (Call.Suspend name) = true
-is_built_call (Call.Resume name) = true
-is_built_call (Call.Kill name) = true
-is_built_call (Call.SetPrio name prio) = true
-is_built_call Call.SchedLock = true
-is_built_call Call.SchedUnlock = true
-is_built_call (Call.SemCreate name value order) = true
-is_built_call (Call.SemTake name timeout) = true
-is_built_call (Call.SemRelease name) = true
-is_built_call (Call.EventCreate name order) = true
-is_built_call (Call.EventSend name mask) = true
-is_built_call (Call.EventRecv name mask all clear timeout) = true
-is_built_call (Call.Delete class name) = is_built_class class
-is_built_call _ = false
+is_built_call call = is_some (subject_of call)
 
 -- a statement that is no call, or one of these calls
 abbrev pub is_built_statement : Stmt → Bool
@@ -76,3 +81,4 @@ pub record IsBuilt (b : PlainBoard) : Type 0 where
   pub shell : b.shell ≡ None
   pub soft : b.soft ≡ None
   pub threads : IsTrue (list_all is_built_thread b.threads)
+  pub apart : AllPairs (λ one other. one.name ≢ other.name) b.threads

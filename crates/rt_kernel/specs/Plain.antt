@@ -18,5 +18,5 @@ printed [] = []
 printed (byte ∷ bytes) = Line.Print (byte ∷ bytes) ∷ []
 
 -- the statement of a thread that comes next, no call: its line, and what it does
-abbrev pub plain_did : List Stmt → ℕ → Stmt → State → Effect
-plain_did script t stmt s = and_then (line_effect (with_next s t ((thread_at s t).next + 1)) (Line.Done (name_of s t) (thread_at s t).next (Some Code.Ok))) (plain_effect script t stmt)
+abbrev pub next_plain : List Stmt → ℕ → Stmt → State → Effect
+next_plain script t stmt s = and_then (line_effect (with_next s t ((thread_at s t).next + 1)) (Line.Done (name_of s t) (thread_at s t).next (Some Code.Ok))) (plain_effect script t stmt)

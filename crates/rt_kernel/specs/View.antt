@@ -1,4 +1,4 @@
--- The plain state that the kernel's records stand for. What isn't built yet is constant.
+-- The plain state that the kernel's state stands for. What isn't built yet is constant.
 use Rattle.std.specs.Prelude.{[], ◌∷◌, None, replicate}
 use Rattle.rt_base.specs.declared.codes.RunMode.{RunMode}
 use Rattle.rt_plain.specs.kernel.State.{State}

@@ -1,12 +1,15 @@
--- What is shown and done where the row of a thread is woken already.
+-- What follows where the tables have woken a thread.
 use Rattle.std.specs.Prelude.{ℕ}
 use Rattle.rt_base.specs.declared.codes.Code.{Code}
 use Rattle.rt_plain.specs.declared.line.Line.{Line}
 use Rattle.rt_plain.specs.declared.line.Woke.{Woke}
-use Rattle.rt_plain.specs.kernel.State.{State}
-use Rattle.rt_plain.specs.kernel.Effects.{Effect, line_effect, name_of}
-use Rattle.rt_kernel.specs.Followed.{followed}
+use Rattle.rt_plain.specs.kernel.State.{State, OfThread}
+use Rattle.rt_plain.specs.kernel.Effects.{Effect, line_effect, name_of, with_ready_last, without_alarm}
 
--- its line is shown, its armed row goes, and it goes to the end of the ready list
+-- the thread has no armed row, and stands at the end of the ready list
+abbrev pub followed : State → ℕ → State
+followed s t = with_ready_last (without_alarm s (OfThread t)) t
+
+-- and its line is shown
 abbrev pub follow_effect : Code → ℕ → State → Effect
 follow_effect code t s = line_effect (followed s t) (Line.Wake (name_of s t) (Woke.Code code))

@@ -1,31 +1,44 @@
-ghost use Rattle.std.specs.Prelude.{◌≡◌, true};
+ghost use Rattle.std.specs.Prelude.{◌≡◌, true, None};
 ghost use Rattle.std.specs.List.{list_all};
-ghost use Rattle.rt_kernel.specs.Built.{is_built_class, is_built_call, is_built_statement, is_built_thread, has_built_classes_alone, has_scripts_alone, is_built, IsBuilt};
+ghost use Rattle.rt_kernel.specs.Built.{subject_of_class, subject_of, is_built_statement, is_built_thread, has_built_classes_alone, has_scripts_alone, is_built, IsBuilt};
 
 use rt_base::Class;
 use rt_plain::{Board, Call, Stmt, ThreadDef};
 
-fn is_built_class(class: Class) -> bool
-    ensures { result ≡ is_built_class class }
+/// The objects on which a call works: all its calls stand in one file.
+#[derive(Clone, Copy, PartialEq, Eq)]
+pub enum Subject {
+    Thread,
+    Sem,
+    Event,
+}
+
+// The objects on which a deletion works, `None` where the class isn't built.
+fn subject_of_class(class: Class) -> Option<Subject>
+    ensures { result ≡ subject_of_class class }
 {
     match class {
-        Class::Sem | Class::Event => true,
-        _ => false,
+        Class::Sem => Some(Subject::Sem),
+        Class::Event => Some(Subject::Event),
+        _ => None,
     }
 }
 
-fn is_built_call(call: &Call) -> bool
-    ensures { result ≡ is_built_call call.now }
+// The objects on which a call works, `None` where the call isn't built.
+pub fn subject_of(call: &Call) -> Option<Subject>
+    ensures { result ≡ subject_of call.now }
 {
     match call {
-        Call::Delay(_) | Call::Yield | Call::SchedLock | Call::SchedUnlock => true,
-        Call::Startup(_) | Call::Suspend(_) | Call::Resume(_) => true,
-        Call::Kill(_) | Call::SetPrio(_, _) => true,
-        Call::SemCreate(_, _, _) | Call::SemTake(_, _) | Call::SemRelease(_) => true,
-        Call::EventCreate(_, _) | Call::EventSend(_, _) => true,
-        Call::EventRecv(_, _, _, _, _) => true,
-        Call::Delete(class, _) => is_built_class(*class),
-        _ => false,
+        Call::Delay(_) | Call::Yield | Call::SchedLock | Call::SchedUnlock => {
+            Some(Subject::Thread)
+        }
+        Call::Startup(_) | Call::Suspend(_) | Call::Resume(_) => Some(Subject::Thread),
+        Call::Kill(_) | Call::SetPrio(_, _) => Some(Subject::Thread),
+        Call::SemCreate(_, _, _) | Call::SemTake(_, _) | Call::SemRelease(_) => Some(Subject::Sem),
+        Call::EventCreate(_, _) | Call::EventSend(_, _) => Some(Subject::Event),
+        Call::EventRecv(_, _, _, _, _) => Some(Subject::Event),
+        Call::Delete(class, _) => subject_of_class(*class),
+        _ => None,
     }
 }
 
@@ -33,7 +46,7 @@ fn is_built_statement(statement: &Stmt) -> bool
     ensures { result ≡ is_built_statement statement.now }
 {
     match statement {
-        Stmt::Do(call) => is_built_call(call),
+        Stmt::Do(call) => subject_of(call).is_some(),
         _ => true,
     }
 }

@@ -2,7 +2,6 @@ ghost use Rattle.std.specs.Prelude.{◌≡◌, ◌+◌, ◌<◌, ◌≤◌, ◌^
 ghost use Rattle.rt_plain.specs.kernel.Opening.{open_state};
 ghost use Rattle.rt_plain.specs.kernel.Shown.{shown};
 ghost use Rattle.std.specs.Option.{option_map};
-ghost use Rattle.std.specs.Str.{bytes_eq};
 ghost use Rattle.rt_plain.specs.kernel.State.{OfThread, thread_at, running_on, is_closed};
 ghost use Rattle.rt_plain.specs.kernel.Owners.{close_effect};
 ghost use Rattle.rt_plain.specs.kernel.Statements.{script_of, statement_at, statement_effect};
@@ -15,29 +14,30 @@ ghost use Rattle.rt_plain.specs.kernel.Sound.{is_waiting, IsProper, IsSized};
 ghost use Rattle.rt_plain.specs.kernel.Steps.{is_all_idle, is_preemptible, without_mark};
 ghost use Rattle.rt_plain.specs.kernel.Kept.{Kept};
 ghost use Rattle.rt_kernel.specs.Built.{IsBuilt, is_built};
-ghost use Rattle.rt_kernel.specs.declared.answer.By.TheVariants.{Thread as ByThreadOn};
-ghost use Rattle.rt_kernel.specs.Called.{plain_answer};
+ghost use Rattle.rt_kernel.specs.declared.caller.Caller.TheVariants.{Thread as CallerOn};
+ghost use Rattle.rt_kernel.specs.Answer.{plain_answer};
 ghost use Rattle.rt_kernel.specs.Due.{first_alarm, taken};
-ghost use Rattle.rt_kernel.specs.Inside.{frame_of};
-ghost use Rattle.rt_kernel.specs.Own.{begun};
+ghost use Rattle.rt_kernel.specs.IsKernel.{frame_of, IsInOrder};
+ghost use Rattle.rt_kernel.specs.NextCall.{begun};
 ghost use Rattle.rt_kernel.specs.Plain.{is_plain};
-ghost use Rattle.rt_kernel.specs.Seen.{DoesNext, MayCall, IsAlone};
+ghost use Rattle.rt_kernel.specs.PlainKernel.{DoesNext, MayCall, IsAlone};
 ghost use Rattle.rt_kernel.specs.Switched.{switched, effect_or, AreNumbers};
 ghost use Rattle.kernel_tables.specs.Threads.{row_at, ArePlain};
 ghost use Rattle.rt_kernel.specs.View.{state_of};
 
-use crate::answer::{Answer, By};
+use crate::answer::Answer;
 use crate::built::know_built;
+use crate::caller::Caller;
 use crate::state::State;
-use rt_base::{CoreNo, Name, RunMode, Steps, ThreadNo, TimerNo};
-use rt_plain::{Board, Call, Lines, Stmt, ThreadDef};
+use rt_base::{CoreNo, RunMode, Steps, ThreadNo, TimerNo};
+use rt_plain::{Board, Call, Lines, Stmt};
 use std::alloc::{AllocError, Global};
 use std::marker::Model;
 use std::sync::ledger::Ledger;
 
 /// The kernel of a board: its threads, its semaphores and event objects, the ready list, who runs, and what is armed.
-/// Contracts see the board and the plain state. All its records are made when it is opened, and no later call takes
-/// memory.
+/// Contracts see the board and the plain state. All its memory is taken when it is opened, and no later call takes
+/// any.
 #[derive(Drop)]
 pub struct Kernel {
     pub(crate) board: Board,
@@ -45,12 +45,12 @@ pub struct Kernel {
 }
 
 impl Model for Kernel {
-    ghost use Rattle.rt_kernel.specs.Seen.{KernelSeen};
+    ghost use Rattle.rt_kernel.specs.PlainKernel.{PlainKernel};
 
-    ghost Value = { KernelSeen };
+    ghost Value = { PlainKernel };
 
     ghost use Rattle.rt_kernel.specs.View.{state_of};
-    ghost use Rattle.rt_kernel.specs.Inside.{IsKernel};
+    ghost use Rattle.rt_kernel.specs.IsKernel.{IsKernel};
 
     ghost view = { λ k. record { board = k.board; state = state_of k.state } };
 
@@ -61,6 +61,7 @@ impl Model for Kernel {
 fn know_state(board: &Board, state: &State)
     requires built { IsBuilt board.now }
     requires kept { Kept (frame_of board.now (state_of state.now)) (state_of state.now) }
+    ensures count { length state.now.tables.threads ≡ length board.now.threads }
     ensures ready { length state.now.ready ≤ 256 }
     ensures armed { length state.now.armed ≤ 256 }
     ensures moment { state.now.moment ≤ 1099511627775 }
@@ -73,31 +74,20 @@ fn know_state(board: &Board, state: &State)
     let _state = state;
 }
 
-// Whether a thread has this name.
-fn is_named(def: &ThreadDef, name: &[u8]) -> bool
-    ensures { result ≡ bytes_eq def.now.name name.now }
+// The script of a thread: the threads have the numbers of their definitions in the board.
+#[tactic(auto, using(crate::proofs::NameLemmas::script_here))]
+fn script_of<'a>(board: &'a Board, state: &State, t: ThreadNo) -> &'a [Stmt]
+    requires built { IsBuilt board.now }
+    requires order { IsInOrder board.now (state_of state.now) }
+    requires there { t < length board.now.threads }
+    ensures { result.now ≡ script_of board.now (row_at state.now.tables.threads t).name }
 {
-    def.name.bytes() == name
-}
-
-// The script of a thread, by its name.
-fn script_of<'a>(board: &'a Board, name: &Name) -> &'a [Stmt]
-    ensures { result.now ≡ script_of board.now name.now }
-{
-    let name = name.bytes();
-    match board
-        .threads
-        .as_slice()
-        .iter()
-        .find(|def| is_named(def, name))
-    {
-        Some(def) => def.script.as_slice(),
-        None => &[],
-    }
+    let _state = state;
+    board.threads.as_slice()[t.0 as usize].script.as_slice()
 }
 
 impl Kernel {
-    /// The kernel as the board opens: all records are made, timers are armed, and the started threads are ready. The one
+    /// The kernel as the board opens: all memory is taken, timers are armed, and the started threads are ready. The one
     /// refusal is want of memory.
     pub fn open(alloc: Global, board: Board) -> Result<Kernel, AllocError>
         requires built { is_built board ≡ true }
@@ -231,9 +221,9 @@ impl Kernel {
         requires { thread < length self.now.state.threads }
         ensures { result ≡ statement_at (script_of self.now.board (thread_at self.now.state thread).name) (thread_at self.now.state thread).next }
     {
-        let name = self.state.tables.threads().name(thread);
+        know_state(&self.board, &self.state);
         let k = self.state.tables.threads().next(thread) as usize;
-        match script_of(&self.board, &name).get(k.saturating_sub(1)) {
+        match script_of(&self.board, &self.state, thread).get(k.saturating_sub(1)) {
             Some(statement) => statement.copy(),
             None => Stmt::Exit,
         }
@@ -259,8 +249,7 @@ impl Kernel {
     {
         know_state(&self.board, &self.state);
         if let Some(t) = self.state.running {
-            let name = self.state.tables.threads().name(t);
-            let script = script_of(&self.board, &name);
+            let script = script_of(&self.board, &self.state, t);
             self.state.plain(t, script, stmt, out);
         }
     }
@@ -270,7 +259,7 @@ impl Kernel {
     /// lines and one for each thread. No timer is there yet to make a call.
     pub fn call<L: Ledger>(
         &mut self,
-        by: By,
+        by: Caller,
         call: &Call,
         out: &mut Lines,
         steps: &mut Steps<L>,
@@ -279,17 +268,17 @@ impl Kernel {
         requires number { self.old.state.numbers + 2 < 2 ^ 64 }
         requires lines { length out.old.items + 2 + length self.old.state.threads ≤ out.old.room }
         ensures board { self.new.board ≡ self.old.board }
-        ensures state { (t core : ℕ) → by ≡ ByThreadOn t core → self.new.state ≡ (statement_effect self.old.board t core self.old.state).state }
-        ensures lines { (t core : ℕ) → by ≡ ByThreadOn t core → out.new.items ≡ out.old.items ++ (statement_effect self.old.board t core self.old.state).lines }
-        ensures answer { (t core : ℕ) → by ≡ ByThreadOn t core → plain_answer result ≡ (outcome_of self.old.board call.now (begun self.old.state t) (ByThread t core) First).answer }
+        ensures state { (t core : ℕ) → by ≡ CallerOn t core → self.new.state ≡ (statement_effect self.old.board t core self.old.state).state }
+        ensures lines { (t core : ℕ) → by ≡ CallerOn t core → out.new.items ≡ out.old.items ++ (statement_effect self.old.board t core self.old.state).lines }
+        ensures answer { (t core : ℕ) → by ≡ CallerOn t core → plain_answer result ≡ (outcome_of self.old.board call.now (begun self.old.state t) (ByThread t core) First).answer }
         ensures numbers { self.new.state.numbers ≤ self.old.state.numbers + 2 }
         ensures few { length out.new.items ≤ length out.old.items + 2 + length self.old.state.threads }
         ensures out_room { out.new.room ≡ out.old.room }
     {
         know_state(&self.board, &self.state);
         match by {
-            By::Thread(t, _) => self.state.call(&self.board, t, call, out),
-            By::Timer(_) => unreachable!(),
+            Caller::Thread(t, core) => self.state.call(&self.board, t, core, call, out),
+            Caller::Timer(_) => unreachable!(),
         }
     }
 

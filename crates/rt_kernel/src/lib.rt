@@ -4,19 +4,22 @@
 mod answer;
 mod armed;
 mod built;
-mod call;
+mod caller;
 mod event_calls;
+mod heads;
 mod kernel;
-mod object_calls;
 mod open;
 mod sem_calls;
+mod settle;
 mod state;
 mod statements;
 mod switch;
 mod thread_calls;
 mod ticks;
 mod view;
+mod waits;
 
-pub use answer::{Answer, By};
+pub use answer::Answer;
 pub use built::{is_built, know_built};
+pub use caller::Caller;
 pub use kernel::Kernel;

@@ -11,7 +11,7 @@ use rt_plain::Board;
 use std::alloc::{AllocError, Global};
 
 impl State {
-    // The records as the board opens. No later call takes memory.
+    // The kernel's state as the board opens. No later call takes memory.
     #[tactic(auto, using(crate::proofs::OpenLemmas::may_open))]
     pub fn open(alloc: Global, board: &Board) -> Result<State, AllocError>
         requires { IsBuilt board.now }

@@ -1,127 +1,112 @@
-ghost use Rattle.std.specs.Prelude.{◌≡◌, ◌+◌, ◌<◌, ◌≤◌, ◌^◌, ◌++◌, length};
-ghost use Rattle.rt_plain.specs.PlainBoard.{PlainBoard};
-ghost use Rattle.rt_plain.specs.kernel.Outcome.{ByThread};
+ghost use Rattle.std.specs.Prelude.{◌≡◌, ◌+◌, Some, length};
+ghost use Rattle.rt_plain.specs.kernel.Calls.{outcome_of};
 ghost use Rattle.rt_plain.specs.kernel.SemCalls.{sem_create, sem_take, sem_release};
 ghost use Rattle.rt_plain.specs.kernel.DeleteCall.{sem_deletion};
-ghost use Rattle.rt_kernel.specs.Called.{called, plain_answer};
+ghost use Rattle.rt_kernel.specs.declared.built.Subject.TheVariants.{Sem as OnSems};
+ghost use Rattle.rt_kernel.specs.Built.{subject_of};
+ghost use Rattle.rt_kernel.specs.Caller.{plain_by, plain_attempt, IsThere};
+ghost use Rattle.rt_kernel.specs.Does.{Does};
+ghost use Rattle.rt_kernel.specs.HasRoom.{HasRoom};
 ghost use Rattle.rt_kernel.specs.Limits.{limits_of, board_limits};
 ghost use Rattle.rt_kernel.specs.View.{state_of};
 
 use crate::answer::Answer;
+use crate::caller::{Attempt, Caller};
 use crate::state::State;
 use ipc_counts::SemReleased;
 use object_box::Make;
-use rt_base::{Code, Name, ThreadNo, WaitOrder};
-use rt_plain::{Call, Lines};
+use rt_base::{Class, Code, Name, WaitOrder};
+use rt_plain::{Board, Call, Lines};
 
 impl State {
-    // A new semaphore, on each board that allows as many as the tables do.
-    pub fn sem_create(
+    // A call on semaphores, on each board that allows as many as the tables do.
+    pub fn sem_call(
         &mut self,
-        t: ThreadNo,
-        k: u16,
+        board: &Board,
+        by: Caller,
+        attempt: Attempt,
+        call: &Call,
+        out: &mut Lines,
+    ) -> Answer
+        requires limits { limits_of self.old.tables ≡ board_limits board.now }
+        requires subject { subject_of call.now ≡ Some OnSems }
+        requires there { IsThere by (length self.old.tables.threads) }
+        requires room { HasRoom self.old out.old (1 + length self.old.tables.threads) }
+        ensures { Does self.old self.new out.old out.new result (1 + length self.old.tables.threads) (outcome_of board.now call.now (state_of self.old) (plain_by (state_of self.old) by) (plain_attempt attempt)) }
+    {
+        match call {
+            Call::SemCreate(name, value, order) => self.sem_create(
+                board, name, *value, *order, out,
+            ),
+            Call::SemTake(name, timeout) => self.sem_take(by, name, *timeout, out),
+            Call::SemRelease(name) => self.sem_release(name, out),
+            Call::Delete(Class::Sem, name) => self.sem_delete(name, out),
+            _ => unreachable!(),
+        }
+    }
+
+    // A new semaphore.
+    fn sem_create(
+        &mut self,
+        board: &Board,
         name: &Name,
         value: u16,
         order: WaitOrder,
         out: &mut Lines,
     ) -> Answer
-        requires there { t < length self.old.tables.threads }
-        requires lines { length out.old.items + 2 ≤ out.old.room }
-        ensures state { (b : PlainBoard) → limits_of self.old.tables ≡ board_limits b → state_of self.new ≡ (called (state_of self.old) t k (sem_create b name.now value order (state_of self.old))).state }
-        ensures limits { limits_of self.new.tables ≡ limits_of self.old.tables }
-        ensures lines { (b : PlainBoard) → limits_of self.old.tables ≡ board_limits b → out.new.items ≡ out.old.items ++ (called (state_of self.old) t k (sem_create b name.now value order (state_of self.old))).lines }
-        ensures answer { (b : PlainBoard) → limits_of self.old.tables ≡ board_limits b → plain_answer result ≡ (sem_create b name.now value order (state_of self.old)).answer }
-        ensures numbers { self.new.numbers ≡ self.old.numbers }
-        ensures few { length out.new.items ≤ length out.old.items + 1 }
-        ensures out_room { out.new.room ≡ out.old.room }
+        requires limits { limits_of self.old.tables ≡ board_limits board.now }
+        ensures { Does self.old self.new out.old out.new result 0 (sem_create board.now name.now value order (state_of self.old)) }
     {
+        let _board = board;
         match self.tables.create_sem(name.copy(), value, order) {
-            Ok(()) => self.succeed(t, k, out),
-            Err(Make::Taken(_)) => self.refuse(t, k, Code::Busy, out),
-            Err(Make::ClassFull(_)) => self.refuse(t, k, Code::NoMem, out),
+            Ok(()) => Answer::Code(Code::Ok),
+            Err(Make::Taken(_)) => Answer::Code(Code::Busy),
+            Err(Make::ClassFull(_)) => Answer::Code(Code::NoMem),
         }
     }
 
     // The semaphore's value is one less, or the thread waits.
-    pub fn sem_take(
-        &mut self,
-        t: ThreadNo,
-        k: u16,
-        name: &Name,
-        timeout: Option<u32>,
-        out: &mut Lines,
-    ) -> Answer
-        requires there { t < length self.old.tables.threads }
-        requires armed { length self.old.armed ≤ 256 }
-        requires moment { self.old.moment ≤ 1099511627775 }
-        requires number { self.old.numbers + 2 < 2 ^ 64 }
-        requires lines { length out.old.items + 2 ≤ out.old.room }
-        ensures state { state_of self.new ≡ (called (state_of self.old) t k (sem_take name.now timeout (state_of self.old) (ByThread t 0))).state }
-        ensures limits { limits_of self.new.tables ≡ limits_of self.old.tables }
-        ensures lines { out.new.items ≡ out.old.items ++ (called (state_of self.old) t k (sem_take name.now timeout (state_of self.old) (ByThread t 0))).lines }
-        ensures answer { plain_answer result ≡ (sem_take name.now timeout (state_of self.old) (ByThread t 0)).answer }
-        ensures numbers { self.new.numbers ≤ self.old.numbers + 2 }
-        ensures few { length out.new.items ≤ length out.old.items + 1 }
-        ensures out_room { out.new.room ≡ out.old.room }
+    fn sem_take(&mut self, by: Caller, name: &Name, timeout: Option<u32>, out: &mut Lines) -> Answer
+        requires there { IsThere by (length self.old.tables.threads) }
+        requires room { HasRoom self.old out.old 0 }
+        ensures { Does self.old self.new out.old out.new result 0 (sem_take name.now timeout (state_of self.old) (plain_by (state_of self.old) by)) }
     {
         match self.tables.take_sem(name) {
-            None => self.refuse(t, k, Code::Inval, out),
-            Some(true) => self.succeed(t, k, out),
-            Some(false) => {
-                self.wait_for(t, k, Call::SemTake(name.copy(), timeout), timeout, out)
-            }
+            None => Answer::Code(Code::Inval),
+            Some(true) => Answer::Code(Code::Ok),
+            Some(false) => self.wait_for(by, Call::SemTake(name.copy(), timeout), timeout),
         }
     }
 
     // The first waiter of the semaphore wakes, or its value is one more.
-    pub fn sem_release(&mut self, t: ThreadNo, k: u16, name: &Name, out: &mut Lines) -> Answer
-        requires there { t < length self.old.tables.threads }
-        requires ready { length self.old.ready ≤ 256 }
-        requires lines { length out.old.items + 2 ≤ out.old.room }
-        ensures state { state_of self.new ≡ (called (state_of self.old) t k (sem_release name.now (state_of self.old))).state }
-        ensures limits { limits_of self.new.tables ≡ limits_of self.old.tables }
-        ensures lines { out.new.items ≡ out.old.items ++ (called (state_of self.old) t k (sem_release name.now (state_of self.old))).lines }
-        ensures answer { plain_answer result ≡ (sem_release name.now (state_of self.old)).answer }
-        ensures numbers { self.new.numbers ≡ self.old.numbers }
-        ensures few { length out.new.items ≤ length out.old.items + 2 }
-        ensures out_room { out.new.room ≡ out.old.room }
+    fn sem_release(&mut self, name: &Name, out: &mut Lines) -> Answer
+        requires room { HasRoom self.old out.old 1 }
+        ensures { Does self.old self.new out.old out.new result 1 (sem_release name.now (state_of self.old)) }
     {
         let Some(released) = self.tables.release_sem(name) else {
-            return self.refuse(t, k, Code::Inval, out);
+            return Answer::Code(Code::Inval);
         };
         match released {
-            SemReleased::Full => self.refuse(t, k, Code::Full, out),
-            SemReleased::Raised => self.succeed(t, k, out),
+            SemReleased::Full => Answer::Code(Code::Full),
+            SemReleased::Raised => Answer::Code(Code::Ok),
             SemReleased::Woke(u) => {
-                self.show_done(t, k, Some(Code::Ok), out);
                 self.follow(u, Code::Ok, out);
-                self.tables.set_code(t, Code::Ok);
                 Answer::Code(Code::Ok)
             }
         }
     }
 
     // The semaphore of this name is gone, and its waiters wake with an error.
-    pub fn sem_delete(&mut self, t: ThreadNo, k: u16, name: &Name, out: &mut Lines) -> Answer
-        requires there { t < length self.old.tables.threads }
-        requires ready { length self.old.ready ≤ 256 }
-        requires lines { length out.old.items + 2 + length self.old.tables.threads ≤ out.old.room }
-        ensures state { state_of self.new ≡ (called (state_of self.old) t k (sem_deletion name.now (state_of self.old))).state }
-        ensures limits { limits_of self.new.tables ≡ limits_of self.old.tables }
-        ensures lines { out.new.items ≡ out.old.items ++ (called (state_of self.old) t k (sem_deletion name.now (state_of self.old))).lines }
-        ensures answer { plain_answer result ≡ (sem_deletion name.now (state_of self.old)).answer }
-        ensures numbers { self.new.numbers ≡ self.old.numbers }
-        ensures few { length out.new.items ≤ length out.old.items + 1 + length self.old.tables.threads }
-        ensures out_room { out.new.room ≡ out.old.room }
+    fn sem_delete(&mut self, name: &Name, out: &mut Lines) -> Answer
+        requires room { HasRoom self.old out.old (length self.old.tables.threads) }
+        ensures { Does self.old self.new out.old out.new result (length self.old.tables.threads) (sem_deletion name.now (state_of self.old)) }
     {
         // There are at most 256 threads, so the ready list has room for all of them.
         let _ = self.tables.threads().len();
         if !self.tables.delete_sem(name, &mut self.waited) {
-            return self.refuse(t, k, Code::Inval, out);
+            return Answer::Code(Code::Inval);
         }
-        self.show_done(t, k, Some(Code::Ok), out);
         self.follow_waited(out);
-        self.tables.set_code(t, Code::Ok);
         Answer::Code(Code::Ok)
     }
 }

@@ -5,7 +5,8 @@ ghost use Rattle.rt_plain.specs.kernel.State.{InCall};
 ghost use Rattle.rt_plain.specs.kernel.Effects.{name_of, without_core, waiting_state, active_state, wake_effect};
 ghost use Rattle.rt_plain.specs.kernel.ThreadCalls.{start_effect, suspended_state};
 ghost use Rattle.rt_plain.specs.kernel.Owners.{close_effect, withdrawn_state};
-ghost use Rattle.rt_kernel.specs.Followed.{followed};
+ghost use Rattle.rt_kernel.specs.Wake.{followed};
+ghost use Rattle.rt_kernel.specs.Does.{Acts};
 ghost use Rattle.rt_kernel.specs.Limits.{limits_of};
 ghost use Rattle.kernel_tables.specs.Tabled.{knows};
 ghost use Rattle.rt_kernel.specs.View.{state_of};
@@ -15,7 +16,7 @@ use kernel_tables::{Stage, Tables, ThreadList, WokenThreads};
 use rt_base::{Code, Name, ThreadNo};
 use rt_plain::{Call, Line, Lines, Woke};
 
-/// The records of the kernel. They stand for a plain state.
+/// The kernel's state.
 #[derive(Drop)]
 pub struct State {
     /// How many ticks have passed since opening.
@@ -83,12 +84,7 @@ impl State {
         requires there { t < length self.old.tables.threads }
         requires room { length self.old.ready < 512 }
         requires lines { length out.old.items < out.old.room }
-        ensures state { state_of self.new ≡ (start_effect t (state_of self.old)).state }
-        ensures limits { limits_of self.new.tables ≡ limits_of self.old.tables }
-        ensures lines { out.new.items ≡ out.old.items ++ (start_effect t (state_of self.old)).lines }
-        ensures numbers { self.new.numbers ≡ self.old.numbers }
-        ensures few { length out.new.items ≤ length out.old.items + 1 }
-        ensures out_room { out.new.room ≡ out.old.room }
+        ensures { Acts self.old self.new out.old out.new 1 (start_effect t (state_of self.old)) }
     {
         out.push(Line::Wake(self.tables.threads().name(t), Woke::Start));
         self.activate(t);
@@ -99,12 +95,7 @@ impl State {
         requires there { t < length self.old.tables.threads }
         requires room { length self.old.ready < 512 }
         requires lines { length out.old.items < out.old.room }
-        ensures state { state_of self.new ≡ (wake_effect code t (state_of self.old)).state }
-        ensures limits { limits_of self.new.tables ≡ limits_of self.old.tables }
-        ensures lines { out.new.items ≡ out.old.items ++ (wake_effect code t (state_of self.old)).lines }
-        ensures numbers { self.new.numbers ≡ self.old.numbers }
-        ensures few { length out.new.items ≤ length out.old.items + 1 }
-        ensures out_room { out.new.room ≡ out.old.room }
+        ensures { Acts self.old self.new out.old out.new 1 (wake_effect code t (state_of self.old)) }
     {
         out.push(Line::Wake(self.tables.threads().name(t), Woke::Code(code)));
         self.tables.set_code(t, code);
@@ -180,12 +171,8 @@ impl State {
     pub fn close(&mut self, t: ThreadNo, out: &mut Lines)
         requires there { t < length self.old.tables.threads }
         requires lines { length out.old.items < out.old.room }
-        ensures state { state_of self.new ≡ (close_effect t (state_of self.old)).state }
-        ensures limits { limits_of self.new.tables ≡ limits_of self.old.tables }
-        ensures lines { out.new.items ≡ out.old.items ++ (close_effect t (state_of self.old)).lines }
+        ensures acts { Acts self.old self.new out.old out.new 1 (close_effect t (state_of self.old)) }
         ensures numbers { self.new.numbers ≡ self.old.numbers }
-        ensures few { length out.new.items ≤ length out.old.items + 1 }
-        ensures out_room { out.new.room ≡ out.old.room }
     {
         out.push(Line::Close(self.tables.threads().name(t)));
         self.withdraw(t);

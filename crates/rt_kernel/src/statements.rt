@@ -2,8 +2,9 @@ ghost use Rattle.std.specs.Prelude.{◌≡◌, ◌+◌, ◌<◌, ◌≤◌, ◌^
 ghost use Rattle.rt_plain.specs.declared.stmt.Stmt.{Stmt};
 ghost use Rattle.rt_plain.specs.text.Words.{code_text};
 ghost use Rattle.rt_plain.specs.kernel.Statements.{plain_effect, said_text, target};
+ghost use Rattle.rt_kernel.specs.Does.{Acts};
 ghost use Rattle.rt_kernel.specs.Limits.{limits_of};
-ghost use Rattle.rt_kernel.specs.Plain.{is_plain, printed, plain_did};
+ghost use Rattle.rt_kernel.specs.Plain.{is_plain, printed, next_plain};
 ghost use Rattle.kernel_tables.specs.Threads.{row_at};
 ghost use Rattle.rt_kernel.specs.View.{state_of};
 
@@ -96,12 +97,8 @@ impl State {
         requires short { length script.now ≤ 512 }
         requires plain { is_plain stmt.now ≡ true }
         requires lines { length out.old.items < out.old.room }
-        ensures state { state_of self.new ≡ (plain_effect script.now t stmt.now (state_of self.old)).state }
-        ensures limits { limits_of self.new.tables ≡ limits_of self.old.tables }
-        ensures lines { out.new.items ≡ out.old.items ++ (plain_effect script.now t stmt.now (state_of self.old)).lines }
+        ensures acts { Acts self.old self.new out.old out.new 1 (plain_effect script.now t stmt.now (state_of self.old)) }
         ensures numbers { self.new.numbers ≡ self.old.numbers }
-        ensures few { length out.new.items ≤ length out.old.items + 2 }
-        ensures out_room { out.new.room ≡ out.old.room }
     {
         match stmt {
             Stmt::Print(text) => print(text.bytes(), out),
@@ -130,15 +127,11 @@ impl State {
         requires short { length script.now ≤ 512 }
         requires plain { is_plain stmt.now ≡ true }
         requires lines { length out.old.items + 2 ≤ out.old.room }
-        ensures state { state_of self.new ≡ (plain_did script.now t stmt.now (state_of self.old)).state }
-        ensures limits { limits_of self.new.tables ≡ limits_of self.old.tables }
-        ensures lines { out.new.items ≡ out.old.items ++ (plain_did script.now t stmt.now (state_of self.old)).lines }
+        ensures acts { Acts self.old self.new out.old out.new 2 (next_plain script.now t stmt.now (state_of self.old)) }
         ensures numbers { self.new.numbers ≡ self.old.numbers }
-        ensures few { length out.new.items ≤ length out.old.items + 2 }
-        ensures out_room { out.new.room ≡ out.old.room }
     {
         let k = self.tables.threads().next(t);
-        self.show_done(t, k, Some(Code::Ok), out);
+        out.push(Line::Done(self.name_of(t), k, Some(Code::Ok)));
         self.tables.set_next(t, k + 1);
         self.do_plain(t, script, stmt, out);
     }

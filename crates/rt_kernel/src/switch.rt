@@ -1,7 +1,8 @@
-ghost use Rattle.std.specs.Prelude.{◌≡◌, ◌+◌, ◌<◌, ◌≤◌, ◌++◌, length, Some, None, IfSome, is_some};
+ghost use Rattle.std.specs.Prelude.{◌≡◌, ◌+◌, ◌<◌, ◌≤◌, length, Some, None, IfSome, is_some};
 ghost use Rattle.rt_plain.specs.kernel.Pick.{pick};
 ghost use Rattle.rt_plain.specs.kernel.Steps.{with_running, preempted_state, is_preemptible, takes_from};
 ghost use Rattle.rt_kernel.specs.Best.{better, base_of};
+ghost use Rattle.rt_kernel.specs.Does.{Acts};
 ghost use Rattle.rt_kernel.specs.Limits.{limits_of};
 ghost use Rattle.rt_kernel.specs.Switched.{switched, effect_or, run_effect, preempt_effect, AreNumbers};
 ghost use Rattle.rt_kernel.specs.View.{state_of};
@@ -94,12 +95,7 @@ impl State {
     fn run_free(&mut self, p: ThreadNo, out: &mut Lines)
         requires there { p < length self.old.tables.threads }
         requires lines { length out.old.items < out.old.room }
-        ensures state { state_of self.new ≡ (run_effect (state_of self.old) 0 p).state }
-        ensures limits { limits_of self.new.tables ≡ limits_of self.old.tables }
-        ensures lines { out.new.items ≡ out.old.items ++ (run_effect (state_of self.old) 0 p).lines }
-        ensures numbers { self.new.numbers ≡ self.old.numbers }
-        ensures few { length out.new.items ≤ length out.old.items + 1 }
-        ensures out_room { out.new.room ≡ out.old.room }
+        ensures { Acts self.old self.new out.old out.new 1 (run_effect (state_of self.old) 0 p) }
     {
         out.push(Line::Run(self.tables.threads().name(p)));
         self.run(p);
@@ -111,12 +107,7 @@ impl State {
         requires r { r < length self.old.tables.threads }
         requires room { length self.old.ready < 512 }
         requires lines { length out.old.items + 2 ≤ out.old.room }
-        ensures state { state_of self.new ≡ (preempt_effect (state_of self.old) 0 r p).state }
-        ensures limits { limits_of self.new.tables ≡ limits_of self.old.tables }
-        ensures lines { out.new.items ≡ out.old.items ++ (preempt_effect (state_of self.old) 0 r p).lines }
-        ensures numbers { self.new.numbers ≡ self.old.numbers }
-        ensures few { length out.new.items ≤ length out.old.items + 2 }
-        ensures out_room { out.new.room ≡ out.old.room }
+        ensures { Acts self.old self.new out.old out.new 2 (preempt_effect (state_of self.old) 0 r p) }
     {
         out.push(Line::Out(
             self.tables.threads().name(r),
@@ -134,12 +125,8 @@ impl State {
         requires room { length self.old.ready < 512 }
         requires lines { length out.old.items + 2 ≤ out.old.room }
         ensures answer { result ≡ is_some (switched (state_of self.old) 0) }
-        ensures state { state_of self.new ≡ (effect_or (state_of self.old) (switched (state_of self.old) 0)).state }
-        ensures limits { limits_of self.new.tables ≡ limits_of self.old.tables }
-        ensures lines { out.new.items ≡ out.old.items ++ (effect_or (state_of self.old) (switched (state_of self.old) 0)).lines }
+        ensures acts { Acts self.old self.new out.old out.new 2 (effect_or (state_of self.old) (switched (state_of self.old) 0)) }
         ensures numbers { self.new.numbers ≡ self.old.numbers }
-        ensures few { length out.new.items ≤ length out.old.items + 2 }
-        ensures out_room { out.new.room ≡ out.old.room }
     {
         let Some(p) = self.pick() else {
             return false;

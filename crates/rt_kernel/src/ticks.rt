@@ -4,6 +4,7 @@ ghost use Rattle.rt_plain.specs.kernel.State.{OfThread};
 ghost use Rattle.rt_plain.specs.kernel.Due.{due, timeout_effect};
 ghost use Rattle.rt_plain.specs.kernel.Ticks.{next_tick_state};
 ghost use Rattle.rt_kernel.specs.Due.{first_alarm, taken};
+ghost use Rattle.rt_kernel.specs.Does.{Acts};
 ghost use Rattle.rt_kernel.specs.Limits.{limits_of};
 ghost use Rattle.rt_kernel.specs.View.{state_of};
 
@@ -42,11 +43,8 @@ impl State {
         requires there { t < length self.old.tables.threads }
         requires room { length self.old.ready < 512 }
         requires lines { length out.old.items + 2 ≤ out.old.room }
-        ensures state { state_of self.new ≡ (timeout_effect t (state_of self.old)).state }
-        ensures limits { limits_of self.new.tables ≡ limits_of self.old.tables }
-        ensures lines { out.new.items ≡ out.old.items ++ (timeout_effect t (state_of self.old)).lines }
+        ensures acts { Acts self.old self.new out.old out.new 2 (timeout_effect t (state_of self.old)) }
         ensures numbers { self.new.numbers ≡ self.old.numbers }
-        ensures out_room { out.new.room ≡ out.old.room }
     {
         let code = self.tables.threads().timeout_code(t);
         out.push(Line::Timeout(self.tables.threads().name(t)));

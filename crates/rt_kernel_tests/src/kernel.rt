@@ -2,7 +2,7 @@ ghost use Rattle.std.specs.Prelude.{◌≡◌};
 
 use board_text::parse;
 use rt_base::{Class, Code, CoreNo, RunMode, Sleep, Steps, ThreadNo};
-use rt_kernel::{Answer, By, Kernel, is_built};
+use rt_kernel::{Answer, Caller, Kernel, is_built};
 use rt_plain::{Line, Lines, Row, Stmt, ThreadState, View, Woke};
 use std::alloc::Global;
 use std::marker::Brand;
@@ -94,7 +94,7 @@ fn step<L: Ledger>(
     assert!(rt; kernel.numbers() < 100);
     assert!(rt; out.spare() >= 2 + kernel.board().threads.len());
     match kernel.next_statement(thread) {
-        Stmt::Do(call) => Some(kernel.call(By::Thread(thread, CORE), &call, out, steps)),
+        Stmt::Do(call) => Some(kernel.call(Caller::Thread(thread, CORE), &call, out, steps)),
         stmt => {
             kernel.plain(CORE, &stmt, out, steps);
             None

@@ -4,7 +4,7 @@ use Rattle.rt_plain.specs.PlainBoard.{PlainBoard}
 use Rattle.rt_plain.specs.runs.Runs.{thread_count}
 use Rattle.rt_plain.proofs.kernel.TickCosts.{armed-few}
 use Rattle.rt_kernel.specs.Built.{IsBuilt}
-use Rattle.rt_kernel.specs.Inside.{frame_of}
+use Rattle.rt_kernel.specs.IsKernel.{frame_of}
 use Rattle.rt_kernel.specs.View.{state_of}
 use Rattle.rt_kernel.proofs.BuiltLemmas.{script-short}
 use Rattle.rt_kernel.proofs.KeptLemmas.{ready-few, ready-numbers, ready-once, running-there}
@@ -13,6 +13,12 @@ use Rattle.rt_kernel.proofs.kernel.know_state.Goals as goal
 -- there are 256 threads at most
 counted : (b : PlainBoard) (n : ℕ) → IsBuilt b → n ≡ thread_count b → n ≤ 256
 counted b n built is = let none : thread_count b ≡ length b.threads = rw (built.shell, built.soft) (omega arith) in omega (arith, built.few, is, none)
+
+pub returns-clause-count : goal.returns-clause-count
+returns-clause-count c =
+    let b = c.args.board.now in
+    let none : thread_count b ≡ length b.threads = rw (c.requires.built.shell, c.requires.built.soft) (omega arith) in
+    omega (arith, c.requires.kept.count, none)
 
 pub returns-clause-ready : goal.returns-clause-ready
 returns-clause-ready c =

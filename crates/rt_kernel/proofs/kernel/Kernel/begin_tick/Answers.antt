@@ -1,10 +1,12 @@
 use Rattle.std.proofs.Common.{◌<◌, sym, ap, ◌∙◌, subst}
 use Rattle.rt_plain.specs.kernel.State.{State}
 use Rattle.rt_plain.specs.kernel.Kept.{Kept}
-use Rattle.rt_kernel.specs.Inside.{frame_of}
-use Rattle.rt_kernel.specs.Seen.{KernelSeen}
+use Rattle.rt_kernel.specs.IsKernel.{frame_of}
+use Rattle.rt_kernel.specs.PlainKernel.{PlainKernel}
 use Rattle.rt_kernel.specs.View.{state_of}
 use Rattle.rt_plain.specs.kernel.Due.{due}
+use Rattle.rt_kernel.proofs.NameLemmas.{order-kept, begun-names}
+use Rattle.rt_kernel.proofs.Quiet.{KeepsNames}
 use Rattle.rt_kernel.proofs.KeptLemmas.{begun-kept}
 use Rattle.rt_kernel.proofs.kernel.Kernel.begin_tick.Goals as goal
 
@@ -12,5 +14,6 @@ pub invariant_of-self : goal.invariant_of-self
 invariant_of-self c = record {
   built = c.self.invariant.built;
   limits = c.begin_tick.ensures.limits ∙ c.self.invariant.limits;
-  kept = subst (λ (s : State). Kept (frame_of c.self.inside.board s) s) (sym c.begin_tick.ensures.state) (begun-kept c.self.inside.board (state_of c.self.inside.state) (ap (λ (k : KernelSeen). due k.state) c.self.view_is ∙ c.requires.none) (subst (λ (k : KernelSeen). k.state.moment < 1099511627775) (sym c.self.view_is) c.requires.moment) c.self.invariant.kept);
+  order = order-kept c.self.inside.board (state_of c.self.inside.state) (state_of c.begin_tick.new.self) (subst (KeepsNames (state_of c.self.inside.state)) (sym c.begin_tick.ensures.state) (begun-names (state_of c.self.inside.state))) c.self.invariant.order;
+  kept = subst (λ (s : State). Kept (frame_of c.self.inside.board s) s) (sym c.begin_tick.ensures.state) (begun-kept c.self.inside.board (state_of c.self.inside.state) (ap (λ (k : PlainKernel). due k.state) c.self.view_is ∙ c.requires.none) (subst (λ (k : PlainKernel). k.state.moment < 1099511627775) (sym c.self.view_is) c.requires.moment) c.self.invariant.kept);
 }

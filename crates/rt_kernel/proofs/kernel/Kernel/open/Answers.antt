@@ -1,4 +1,5 @@
 use Rattle.rt_kernel.specs.View.{state_of}
+use Rattle.rt_kernel.proofs.NameLemmas.{opened-order}
 use Rattle.rt_kernel.proofs.OpenLemmas.{opened_kept}
 use Rattle.rt_kernel.proofs.kernel.Kernel.open.Goals as goal
 
@@ -6,5 +7,6 @@ pub invariant_of-result : goal.invariant_of-result
 invariant_of-result c = record {
   built = c.know_built.ensures;
   limits = c.in_ok-state.ensures.limits;
+  order = opened-order c.args.board (state_of c.in_ok-state.state) c.know_built.ensures c.in_ok-state.ensures.state;
   kept = opened_kept c.args.board (state_of c.in_ok-state.state) c.know_built.ensures c.in_ok-state.ensures.state;
 }

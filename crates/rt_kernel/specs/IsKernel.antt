@@ -1,7 +1,8 @@
 -- What is true of every kernel.
-use Rattle.std.specs.Prelude.{◌≡◌, eqb}
+use Rattle.std.specs.Prelude.{◌≡◌, ℕ, Some, eqb, slice_get}
+use Rattle.rt_plain.specs.declared.board.ThreadDef.{ThreadDef}
 use Rattle.rt_plain.specs.PlainBoard.{PlainBoard}
-use Rattle.rt_plain.specs.kernel.State.{State}
+use Rattle.rt_plain.specs.kernel.State.{State, thread_at}
 use Rattle.rt_plain.specs.kernel.Tally.{tally}
 use Rattle.rt_plain.specs.kernel.Kept.{Frame, Kept}
 use Rattle.rt_plain.proofs.kernel.TickLemmas.{less-fits}
@@ -14,8 +15,13 @@ use Rattle.rt_kernel.specs.View.{state_of}
 abbrev pub frame_of : PlainBoard → State → Frame
 frame_of b s = record { board = b; now = s.moment; low = s.moment; few = tally (λ row. eqb row.due s.moment) s.armed; latest = 1099511627775; fits = less-fits s.moment }
 
--- the board is built, there is room for as many objects as it says, and what the rules of the kernel keep holds of the state
+-- threads have the numbers of their definitions in the board
+abbrev pub IsInOrder : PlainBoard → State → Type 0
+IsInOrder b s = (t : ℕ) (def : ThreadDef) → slice_get b.threads t ≡ Some def → (thread_at s t).name ≡ def.name
+
+-- the board is built, there is room for as many objects as it says, threads are in its order, and what the rules of the kernel keep holds of the state
 pub record IsKernel (k : Inside) : Type 0 where
   pub built : IsBuilt k.board
   pub limits : limits_of k.state.tables ≡ board_limits k.board
+  pub order : IsInOrder k.board (state_of k.state)
   pub kept : Kept (frame_of k.board (state_of k.state)) (state_of k.state)

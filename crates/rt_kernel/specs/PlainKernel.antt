@@ -7,10 +7,10 @@ use Rattle.rt_plain.specs.PlainBoard.{PlainBoard}
 use Rattle.rt_plain.specs.kernel.State.{State, thread_at, running_on}
 use Rattle.rt_plain.specs.kernel.Statements.{script_of, statement_at}
 use Rattle.rt_plain.specs.kernel.Opening.{new_console}
-use Rattle.rt_kernel.specs.declared.answer.By.{By}
+use Rattle.rt_kernel.specs.declared.caller.Caller.{Caller}
 
 -- the board for which it was opened, and the state that it stands for
-pub record KernelSeen : Type 0 where
+pub record PlainKernel : Type 0 where
   pub board : PlainBoard
   pub state : State
 
@@ -26,12 +26,12 @@ pub record IsAlone (s : State) : Type 0 where
   pub holdings : s.holdings ≡ []
 
 -- a core runs a thread whose next statement is this one, and which has no call to make again
-pub record DoesNext (k : KernelSeen) (t core : ℕ) (stmt : Stmt) : Type 0 where
+pub record DoesNext (k : PlainKernel) (t core : ℕ) (stmt : Stmt) : Type 0 where
   pub runs : running_on k.state core ≡ Some t
   pub again : (thread_at k.state t).retry ≡ None
   pub next : statement_at (script_of k.board (thread_at k.state t).name) (thread_at k.state t).next ≡ stmt
 
 -- who makes a call may make it: a thread does it next, and a timer is there
-abbrev pub MayCall : KernelSeen → By → Call → Type 0
-MayCall k (By.Thread t core) call = DoesNext k t core (Stmt.Do call)
-MayCall k (By.Timer o) call = o < length k.state.timers
+abbrev pub MayCall : PlainKernel → Caller → Call → Type 0
+MayCall k (Caller.Thread t core) call = DoesNext k t core (Stmt.Do call)
+MayCall k (Caller.Timer o) call = o < length k.state.timers

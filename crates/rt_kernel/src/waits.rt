@@ -1,69 +1,72 @@
-ghost use Rattle.std.specs.Prelude.{◌≡◌, ◌+◌, ◌<◌, ◌≤◌, ◌^◌, ◌++◌, true, length};
+ghost use Rattle.std.specs.Prelude.{◌≡◌, ◌+◌, ◌<◌, ◌≤◌, ◌^◌, ◌++◌, [], true, length};
 ghost use Rattle.std.specs.List.{AllByRecursion};
-ghost use Rattle.rt_plain.specs.kernel.Outcome.{silent_success, first_wait_outcome};
+ghost use Rattle.rt_plain.specs.kernel.State.{InCall};
+ghost use Rattle.rt_plain.specs.kernel.Outcome.{First, may_not_wait, wait_outcome, wait_or_refusal};
 ghost use Rattle.rt_plain.specs.kernel.Effects.{each_effect};
-ghost use Rattle.rt_kernel.specs.Called.{called, plain_answer};
+ghost use Rattle.rt_kernel.specs.Answer.{plain_answer};
+ghost use Rattle.rt_kernel.specs.Caller.{plain_by, IsThere};
 ghost use Rattle.rt_kernel.specs.Limits.{limits_of};
 ghost use Rattle.kernel_tables.specs.Tabled.{knows};
 ghost use Rattle.rt_kernel.specs.View.{state_of};
 ghost use Rattle.rt_kernel.specs.Wake.{follow_effect};
 
 use crate::answer::Answer;
+use crate::caller::Caller;
 use crate::state::State;
-use rt_base::{Code, ThreadNo};
+use rt_base::{Code, CoreNo, ThreadNo};
 use rt_plain::{Call, Lines};
 
 impl State {
-    // The call is done, and answers 0.
-    pub fn succeed(&mut self, t: ThreadNo, k: u16, out: &mut Lines) -> Answer
-        requires there { t < length self.old.tables.threads }
-        requires lines { length out.old.items < out.old.room }
-        ensures state { state_of self.new ≡ (called (state_of self.old) t k (silent_success (state_of self.old))).state }
-        ensures limits { limits_of self.new.tables ≡ limits_of self.old.tables }
-        ensures lines { out.new.items ≡ out.old.items ++ (called (state_of self.old) t k (silent_success (state_of self.old))).lines }
-        ensures answer { plain_answer result ≡ (silent_success (state_of self.old)).answer }
-        ensures numbers { self.new.numbers ≡ self.old.numbers }
-        ensures few { length out.new.items ≤ length out.old.items + 1 }
-        ensures out_room { out.new.room ≡ out.old.room }
+    // Whether a thread may not wait on its core: it has a scheduler lock. No core has the lock over all cores yet.
+    pub fn may_not_wait(&self, t: ThreadNo, core: CoreNo) -> bool
+        requires { t < length self.now.tables.threads }
+        ensures { result ≡ may_not_wait (state_of self.now) t core }
     {
-        self.show_done(t, k, Some(Code::Ok), out);
-        self.tables.set_code(t, Code::Ok);
-        Answer::Code(Code::Ok)
+        let _core = core;
+        0 < self.tables.threads().locks(t)
     }
 
-    // A call that can't be done now: it is refused where its timeout is 0 or its thread may not wait, and else waits.
-    pub fn wait_for(
-        &mut self,
-        t: ThreadNo,
-        k: u16,
-        call: Call,
-        timeout: Option<u32>,
-        out: &mut Lines,
-    ) -> Answer
+    // The thread waits in a call until a moment, if one is given, where it may wait.
+    pub fn try_wait(&mut self, t: ThreadNo, core: CoreNo, call: Call, due: Option<u64>) -> Answer
         requires there { t < length self.old.tables.threads }
+        requires armed { length self.old.armed ≤ 256 }
+        requires number { self.old.numbers + 2 < 2 ^ 64 }
+        requires known { knows self.old.tables call ≡ true }
+        ensures state { state_of self.new ≡ (wait_outcome (state_of self.old) t core (InCall call) due).effect.state }
+        ensures answer { plain_answer result ≡ (wait_outcome (state_of self.old) t core (InCall call) due).answer }
+        ensures limits { limits_of self.new.tables ≡ limits_of self.old.tables }
+        ensures threads { length self.new.tables.threads ≡ length self.old.tables.threads }
+        ensures numbers { self.new.numbers ≤ self.old.numbers + 2 }
+    {
+        if self.may_not_wait(t, core) {
+            return Answer::Code(Code::Error);
+        }
+        self.wait(t, call, due);
+        Answer::Waits
+    }
+
+    // A call that can't be done now: it is refused where a timer makes it or its timeout is 0, and else waits.
+    pub fn wait_for(&mut self, by: Caller, call: Call, timeout: Option<u32>) -> Answer
+        requires there { IsThere by (length self.old.tables.threads) }
         requires armed { length self.old.armed ≤ 256 }
         requires moment { self.old.moment ≤ 1099511627775 }
         requires number { self.old.numbers + 2 < 2 ^ 64 }
         requires known { knows self.old.tables call ≡ true }
-        requires lines { length out.old.items < out.old.room }
-        ensures state { state_of self.new ≡ (called (state_of self.old) t k (first_wait_outcome (state_of self.old) t 0 call timeout Code.Timeout)).state }
+        ensures state { state_of self.new ≡ (wait_or_refusal (state_of self.old) (plain_by (state_of self.old) by) First call timeout Code.Timeout).effect.state }
+        ensures answer { plain_answer result ≡ (wait_or_refusal (state_of self.old) (plain_by (state_of self.old) by) First call timeout Code.Timeout).answer }
+        ensures silent { (wait_or_refusal (state_of self.old) (plain_by (state_of self.old) by) First call timeout Code.Timeout).effect.lines ≡ [] }
         ensures limits { limits_of self.new.tables ≡ limits_of self.old.tables }
-        ensures lines { out.new.items ≡ out.old.items ++ (called (state_of self.old) t k (first_wait_outcome (state_of self.old) t 0 call timeout Code.Timeout)).lines }
-        ensures answer { plain_answer result ≡ (first_wait_outcome (state_of self.old) t 0 call timeout Code.Timeout).answer }
+        ensures threads { length self.new.tables.threads ≡ length self.old.tables.threads }
         ensures numbers { self.new.numbers ≤ self.old.numbers + 2 }
-        ensures few { length out.new.items ≤ length out.old.items + 1 }
-        ensures out_room { out.new.room ≡ out.old.room }
     {
+        let Caller::Thread(t, core) = by else {
+            return Answer::Code(Code::Timeout);
+        };
         if let Some(0) = timeout {
-            return self.refuse(t, k, Code::Timeout, out);
+            return Answer::Code(Code::Timeout);
         }
-        if self.may_not_wait(t) {
-            return self.refuse(t, k, Code::Error, out);
-        }
-        self.show_done(t, k, None, out);
         let due = timeout.map(|ticks| self.moment + ticks as u64);
-        self.wait(t, call, due);
-        Answer::Waits
+        self.try_wait(t, core, call, due)
     }
 
     // All the threads that a deletion has woken follow.

@@ -1,0 +1,26 @@
+-- Who makes a call, and for which time, as the definitions have it.
+use Rattle.std.specs.Prelude.{ℕ, ◌<◌, ⊤, List, [], slice_get, unwrap_or}
+use Rattle.std.specs.Option.{option_map}
+use Rattle.rt_plain.specs.kernel.State.{State}
+use Rattle.rt_plain.specs.kernel.Outcome.{By, ByThread, ByTimer, Attempt as PlainAttempt, First, Again}
+use Rattle.rt_kernel.specs.declared.caller.Caller.{Caller}
+use Rattle.rt_kernel.specs.declared.caller.Attempt.{Attempt}
+
+-- the name of a timer
+abbrev pub timer_name : State → ℕ → List ℕ
+timer_name s timer = unwrap_or (option_map (λ row. row.name) (slice_get s.timers timer)) []
+
+-- who makes a call
+abbrev pub plain_by : State → Caller → By
+plain_by s (Caller.Thread t core) = ByThread t core
+plain_by s (Caller.Timer timer) = ByTimer (timer_name s timer)
+
+-- for the first time or again
+abbrev pub plain_attempt : Attempt → PlainAttempt
+plain_attempt Attempt.First = First
+plain_attempt (Attempt.Again due) = Again due
+
+-- a thread that makes a call is one of so many
+abbrev pub IsThere : Caller → ℕ → Type 0
+IsThere (Caller.Thread t core) count = t < count
+IsThere (Caller.Timer timer) count = ⊤
