@@ -1,20 +1,19 @@
 -- Threads keep their names, so their numbers stay those of the board's order.
-use Rattle.std.proofs.Common.{◌≡◌, ◌≢◌, ℕ, zero, suc, ◌+◌, ◌-◌, ◌<◌, arith, List, [], ◌∷◌, Option, Some, None, Bool, true, false, refl, sym, ap, ◌∙◌, subst, length, map, fold, AllPairs, bytes_eq, cond}
+use Rattle.std.proofs.Common.{◌≡◌, ◌≢◌, ℕ, zero, suc, ◌+◌, ◌-◌, ◌<◌, arith, List, [], ◌∷◌, Option, Some, None, Bool, true, false, refl, sym, ap, ◌∙◌, length, map, fold, AllPairs, bytes_eq}
 use Rattle.std.specs.Prelude.{slice_get, slice_index_or, unwrap_or, if◌then◌else◌}
 use Rattle.std.specs.List.{find}
 use Rattle.std.specs.Option.{option_map}
 use Rattle.rt_base.specs.declared.codes.Code.{Code}
 use Rattle.rt_plain.specs.declared.board.ThreadDef.{ThreadDef}
 use Rattle.rt_plain.specs.declared.line.Line.{Line}
-use Rattle.rt_plain.specs.declared.stmt.Stmt.{Stmt}
 use Rattle.rt_plain.specs.PlainBoard.{PlainBoard}
 use Rattle.rt_plain.specs.kernel.State.{State, Thread, no_thread, thread_at, with_thread, running_on, find_thread}
-use Rattle.rt_plain.specs.kernel.Outcome.{Outcome, refusal, silent_success, found_outcome}
+use Rattle.rt_plain.specs.kernel.Outcome.{refusal, silent_success, found_outcome}
 use Rattle.rt_plain.specs.kernel.ThreadCalls.{set_prio}
 use Rattle.rt_plain.specs.kernel.Statements.{script_of, call_effect, with_next}
 use Rattle.rt_plain.specs.kernel.Opening.{open_state, new_script_thread}
 use Rattle.rt_plain.specs.kernel.Pick.{pick}
-use Rattle.rt_plain.specs.kernel.Steps.{is_preemptible, takes_from, preempted_state, without_mark}
+use Rattle.rt_plain.specs.kernel.Steps.{without_mark}
 use Rattle.rt_plain.specs.kernel.Effects.{with_ready_last, with_ready_first}
 use Rattle.rt_plain.specs.kernel.Ticks.{next_tick_state, with_slice_used, thread_after_slice}
 use Rattle.rt_plain.proofs.text.FieldLemmas.{is_word, is_same}

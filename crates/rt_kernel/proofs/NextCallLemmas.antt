@@ -1,5 +1,5 @@
 -- What follows from the calls of threads is what the code does.
-use Rattle.std.proofs.Common.{◌≡◌, ℕ, ◌+◌, ◌≤◌, ◌==◌, arith, List, [], ◌++◌, length, length-append, filter, Option, Some, None, IfSome, true, refl, sym, ap, ◌∙◌}
+use Rattle.std.proofs.Common.{◌≡◌, ℕ, ◌+◌, ◌≤◌, ◌==◌, arith, [], ◌++◌, length, length-append, filter, Option, Some, None, IfSome, true, refl, sym, ap, ◌∙◌}
 use Rattle.rt_base.specs.declared.codes.Class.{Class}
 use Rattle.rt_plain.specs.declared.line.Line.{Line}
 use Rattle.rt_plain.specs.declared.stmt.Call.{Call}

@@ -21,7 +21,7 @@ use rt_base::{Class, Code, Name, WaitOrder};
 use rt_plain::{Board, Call, Lines};
 
 impl State {
-    // A call on event objects, on each board that allows as many as the tables do.
+    // A call on event objects.
     pub fn event_call(
         &mut self,
         board: &Board,

@@ -21,7 +21,7 @@ use rt_base::{CoreNo, Name, ThreadNo, TimerNo};
 use rt_plain::{Board, Call, Line, Lines};
 
 impl State {
-    // What a call does, without its line, on each board that allows as many objects as the tables do.
+    // What a call does, without its line.
     fn act(
         &mut self,
         board: &Board,

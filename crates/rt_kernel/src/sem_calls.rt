@@ -19,7 +19,7 @@ use rt_base::{Class, Code, Name, WaitOrder};
 use rt_plain::{Board, Call, Lines};
 
 impl State {
-    // A call on semaphores, on each board that allows as many as the tables do.
+    // A call on semaphores.
     pub fn sem_call(
         &mut self,
         board: &Board,

@@ -1,6 +1,6 @@
 use Rattle.std.proofs.Common.{◌≡◌, ◌≤◌, ◌++◌, List, ℕ, Option, Some, refl, sym, ap, ◌∙◌, subst, length}
 use Rattle.rt_plain.specs.declared.stmt.Stmt.{Stmt}
-use Rattle.rt_plain.specs.kernel.State.{State, Thread, thread_at, running_on}
+use Rattle.rt_plain.specs.kernel.State.{State, thread_at, running_on}
 use Rattle.rt_plain.specs.kernel.Effects.{Effect}
 use Rattle.rt_plain.specs.kernel.Kept.{Kept}
 use Rattle.rt_kernel.specs.IsKernel.{frame_of}
@@ -8,7 +8,6 @@ use Rattle.rt_kernel.specs.PlainKernel.{PlainKernel, DoesNext}
 use Rattle.rt_kernel.specs.View.{state_of}
 use Rattle.rt_plain.specs.kernel.Statements.{script_of, statement_effect}
 use Rattle.rt_kernel.specs.Plain.{next_plain}
-use Rattle.kernel_tables.specs.Threads.{row_at}
 use Rattle.rt_kernel.proofs.NameLemmas.{order-kept}
 use Rattle.rt_kernel.proofs.Quiet.{KeepsNames}
 use Rattle.rt_kernel.proofs.BuiltLemmas.{script-short}

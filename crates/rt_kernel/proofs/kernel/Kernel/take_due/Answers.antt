@@ -1,4 +1,4 @@
-use Rattle.std.proofs.Common.{◌≡◌, ◌<◌, ℕ, Option, Some, true, sym, ap, ◌∙◌, subst, length}
+use Rattle.std.proofs.Common.{◌≡◌, ◌<◌, ℕ, Option, Some, true, refl, sym, ap, ◌∙◌, subst, length}
 use Rattle.rt_plain.specs.kernel.State.{State, thread_at}
 use Rattle.rt_plain.specs.kernel.Kept.{Kept}
 use Rattle.rt_kernel.specs.IsKernel.{frame_of}

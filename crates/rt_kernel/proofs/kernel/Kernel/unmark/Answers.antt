@@ -1,4 +1,4 @@
-use Rattle.std.proofs.Common.{true, false, ap, ◌∙◌}
+use Rattle.std.proofs.Common.{true, false, refl, ap, ◌∙◌}
 use Rattle.rt_kernel.specs.Limits.{limits_of}
 use Rattle.rt_kernel.specs.View.{state_of}
 use Rattle.rt_kernel.proofs.NameLemmas.{order-kept}
