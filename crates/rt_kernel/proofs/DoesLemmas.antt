@@ -1,7 +1,7 @@
 -- What calls do, one after the other, and by an outcome that is the same.
 use Rattle.std.proofs.Common.{◌≡◌, ℕ, ◌+◌, ◌≤◌, ◌++◌, List, arith, length, sym, ap, ◌∙◌, subst}
 use Rattle.std.proofs.lemmas.List.{append_assoc}
-use Rattle.rt_plain.specs.Roomy.{Roomy}
+use Rattle.rt_base.specs.Roomy.{Roomy}
 use Rattle.rt_plain.specs.declared.line.Line.{Line}
 use Rattle.rt_plain.specs.kernel.State.{State}
 use Rattle.rt_plain.specs.kernel.Effects.{Effect, and_then}

@@ -4,7 +4,7 @@ use Rattle.rt_base.specs.declared.codes.Class.{Class}
 use Rattle.rt_plain.specs.declared.line.Line.{Line}
 use Rattle.rt_plain.specs.declared.stmt.Call.{Call}
 use Rattle.rt_plain.specs.PlainBoard.{PlainBoard}
-use Rattle.rt_plain.specs.Roomy.{Roomy}
+use Rattle.rt_base.specs.Roomy.{Roomy}
 use Rattle.rt_plain.specs.kernel.State.{State, InCall, thread_at, with_thread, find_thread}
 use Rattle.rt_plain.specs.kernel.Effects.{Effect, and_then, name_of}
 use Rattle.rt_plain.specs.kernel.Outcome.{By, ByThread, Attempt, First, Answer as PlainAnswer, Answers, Waits, Outcome, refusal, silent_success, found_outcome}

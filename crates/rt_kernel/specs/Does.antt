@@ -1,7 +1,7 @@
 -- What a call does to the kernel's state and to the lines.
 use Rattle.std.specs.Prelude.{ℕ, ◌≡◌, ◌+◌, ◌≤◌, ◌++◌, Option, length}
 use Rattle.rt_base.specs.declared.codes.Code.{Code}
-use Rattle.rt_plain.specs.Roomy.{Roomy}
+use Rattle.rt_base.specs.Roomy.{Roomy}
 use Rattle.rt_plain.specs.declared.line.Line.{Line}
 use Rattle.rt_plain.specs.kernel.Effects.{Effect}
 use Rattle.rt_plain.specs.kernel.Outcome.{Outcome, success}

@@ -1,6 +1,6 @@
 -- What a call needs of the kernel's state and of the lines.
 use Rattle.std.specs.Prelude.{ℕ, ◌+◌, ◌<◌, ◌≤◌, ◌^◌, length}
-use Rattle.rt_plain.specs.Roomy.{Roomy}
+use Rattle.rt_base.specs.Roomy.{Roomy}
 use Rattle.rt_plain.specs.declared.line.Line.{Line}
 use Rattle.rt_kernel.specs.declared.state.State.{State as KernelState}
 
