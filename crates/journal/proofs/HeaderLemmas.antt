@@ -11,7 +11,7 @@ use Rattle.rt_plain.specs.declared.entry.Entry.{Entry}
 use Rattle.rt_plain.specs.runs.Runs.{line_count}
 use Rattle.rt_plain.specs.text.Texts.{printed_by, console_of}
 use Rattle.rt_plain.specs.text.TraceRows.{CanShow, CanStand, CanBeWritten}
-use Rattle.journal.specs.Seen.{IsEntryAt, lines_of}
+use Rattle.journal.specs.JournalSeen.{IsEntryAt, lines_of}
 use Rattle.journal.specs.declared.header.Header.{Header}
 use Rattle.journal.specs.Headers.{entries_of, lines_in, StandFrom, CanHead}
 

@@ -1,3 +1,3 @@
-pub mod Seen
+pub mod JournalSeen
 pub mod Headers
 pub mod Ending

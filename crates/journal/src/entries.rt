@@ -3,7 +3,7 @@ ghost use Rattle.rt_plain.specs.runs.Runs.{line_count};
 ghost use Rattle.rt_plain.specs.text.Texts.{body_text, console_of};
 ghost use Rattle.rt_plain.specs.text.TraceRows.{CanBeWritten, StandsIn};
 ghost use Rattle.journal.specs.Ending.{cut_of};
-ghost use Rattle.journal.specs.Seen.{IsEntryAt, lines_of};
+ghost use Rattle.journal.specs.JournalSeen.{IsEntryAt, lines_of};
 
 use crate::consoles::put_printed;
 use crate::header::Header;
@@ -28,7 +28,7 @@ pub struct Journal {
 
 impl Model for Journal {
     ghost use Rattle.std.specs.Prelude.{◌≡◌, ◌≤◌, length, vec_len, vec_capacity};
-    ghost use Rattle.journal.specs.Seen.{JournalSeen};
+    ghost use Rattle.journal.specs.JournalSeen.{JournalSeen};
 
     ghost Value = { JournalSeen };
 

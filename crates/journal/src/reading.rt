@@ -85,7 +85,7 @@ fn counts_in(words: &[&[u8]]) -> Result<(), Why>
 
 // What a `cut` line tells: nothing, where it has a number for each of 1 to 8 cores.
 #[tactic(auto, using(rt_plain::proofs::text::TraceLemmas::cut_no_number, rt_plain::proofs::text::TraceLemmas::cut_with_cores, rt_plain::proofs::text::TraceLemmas::cut_without_cores))]
-fn cut_told(words: &[&[u8]]) -> Result<Option<Event>, Why>
+fn read_cut(words: &[&[u8]]) -> Result<Option<Event>, Why>
     ensures { result ≡ told_of_row (result_map (λ counts. Counted counts) (counts_in (drop 1 (map (λ w. w.now) words.now)))) }
 {
     let counts = behind(words, 1);
@@ -97,12 +97,12 @@ fn cut_told(words: &[&[u8]]) -> Result<Option<Event>, Why>
 }
 
 // What a line without an indent tells.
-fn outer_told(words: &[&[u8]]) -> Result<Option<Event>, Why>
+fn read_outer(words: &[&[u8]]) -> Result<Option<Event>, Why>
     ensures { result ≡ told_of_row (outer_said (map (λ w. w.now) words.now)) }
 {
     let first = word_at(words, 0);
     if first == b"cut".as_slice() {
-        return cut_told(words);
+        return read_cut(words);
     }
     if first == b"end".as_slice() {
         end_in(words)?;
@@ -113,25 +113,25 @@ fn outer_told(words: &[&[u8]]) -> Result<Option<Event>, Why>
 }
 
 // What words tell, behind an indent or not.
-fn words_told(indented: bool, words: &[&[u8]]) -> Result<Option<Event>, Why>
+fn read_words(indented: bool, words: &[&[u8]]) -> Result<Option<Event>, Why>
     ensures { result ≡ told_of_row (row_of_words indented (map (λ w. w.now) words.now)) }
 {
     if indented {
         shown(words)?;
         return Ok(None);
     }
-    outer_told(words)
+    read_outer(words)
 }
 
 // The event of a header, nothing of another line that has a form, and a reason of one that has none.
-fn told(alloc: Global, line: &[u8]) -> Result<Result<Option<Event>, Why>, AllocError>
+fn read_event(alloc: Global, line: &[u8]) -> Result<Result<Option<Event>, Why>, AllocError>
     ensures { IfOk result (λ told. told ≡ told_by line.now) }
 {
     if !are_printable(line) {
         return Ok(Err(Why::Byte));
     }
     let words = words_of(alloc, behind_indent(line))?;
-    Ok(words_told(is_indented(line), &words))
+    Ok(read_words(is_indented(line), &words))
 }
 
 // Where the first line ends, if a newline ends it.
@@ -157,7 +157,7 @@ pub fn read_events(alloc: Global, text: &[u8]) -> Result<List<Event>, AllocError
     let mut events = List::new(alloc);
     let mut rest = text;
     while let Some(end) = line_end(rest) {
-        match told(alloc, &rest[..end])? {
+        match read_event(alloc, &rest[..end])? {
             Ok(Some(event)) => {
                 if events.push(event).is_err() {
                     return Err(AllocError);

@@ -39,8 +39,8 @@ macro_rules! trace_rows {
                 Unwork b"unwork" all1 (Line::Unwork(o)) {1 o: name()}
             }
             stated {
-                Done b"do" done
-                Again b"again" again
+                Done b"do" make_done
+                Again b"again" make_again
             }
         }
     };
@@ -60,7 +60,7 @@ macro_rules! read_line {
                 Ok(nested!($($field)*)) => Ok($($line)*),
                 Err(why) => Err(why),
             })*
-            $(TraceKind::$statement => match stated($words) {
+            $(TraceKind::$statement => match read_stated($words) {
                 Ok(values) => Ok($made(values)),
                 Err(why) => Err(why),
             })*
@@ -71,20 +71,21 @@ macro_rules! read_line {
 // A thread, the number of its statement, and its code or `None` for `wait`.
 type Stated = (Name, (u16, (Option<Code>, ())));
 
-fn stated(words: &[&[u8]]) -> Result<Stated, Why>
+// What the words of a line of a statement say.
+fn read_stated(words: &[&[u8]]) -> Result<Stated, Why>
     ensures { result ≡ values_in ended (trace_form Lines.Done).fields 1 (map (λ w. w.now) words.now) }
 {
     all3(name(words, 1), half(words, 2, 0, 65535), answered(words, 3))
 }
 
-fn done(values: Stated) -> Line
+fn make_done(values: Stated) -> Line
     ensures { result ≡ line_made Lines.Done values }
 {
     let (thread, (k, (answer, ()))) = values;
     Line::Done(thread, k, answer)
 }
 
-fn again(values: Stated) -> Line
+fn make_again(values: Stated) -> Line
     ensures { result ≡ line_made Lines.Again values }
 {
     let (thread, (k, (answer, ()))) = values;

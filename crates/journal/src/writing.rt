@@ -1,11 +1,12 @@
-ghost use Rattle.std.specs.Prelude.{◌≡◌, ◌++◌, ◌<◌, [], ◌∷◌, OnOk, false, codes, if◌then◌else◌};
-ghost use Rattle.std.specs.Fmt.{decimal, digit_glyph};
+ghost use Rattle.std.specs.Prelude.{◌≡◌, ◌++◌, [], ◌∷◌, OnOk, codes, if◌then◌else◌};
+ghost use Rattle.std.specs.Fmt.{decimal};
 ghost use Rattle.std.specs.List.{flat_map};
 ghost use Rattle.rt_plain.specs.text.Words.{words, code_text, sleep_text};
-ghost use Rattle.rt_plain.specs.text.Texts.{escape_of, quoted_text, code_or_wait, woke_text, fired_text, line_text, indented_line};
+ghost use Rattle.rt_plain.specs.text.Texts.{quoted_text, code_or_wait, woke_text, fired_text, line_text, indented_line};
 
 use itoa::Buffer;
 use rt_base::{Code, List, Name, Prio, Sleep, Text};
+use rt_plain::quotes::put_quoted;
 use rt_plain::{Fired, Line, Woke};
 use std::alloc::AllocError;
 
@@ -75,54 +76,6 @@ fn put_sleep(out: &mut List<u8>, mode: Sleep) -> Result<(), AllocError>
         Sleep::Standby => put(out, b"standby"),
         Sleep::Shutdown => put(out, b"shutdown"),
     }
-}
-
-// A hexadecimal digit.
-fn glyph(digit: u8) -> u8
-    requires { digit < 16 }
-    ensures { result ≡ digit_glyph false digit }
-{
-    if digit < 10 {
-        b'0' + digit
-    } else {
-        b'a' + (digit - 10)
-    }
-}
-
-fn put_escape(out: &mut List<u8>, byte: u8) -> Result<(), AllocError>
-    ensures { OnOk result (out.new ≡ out.old ++ escape_of byte) }
-{
-    if byte == b'"' {
-        return put(out, b"\\\"");
-    }
-    if byte == b'\\' {
-        return put(out, b"\\\\");
-    }
-    if byte == b'\n' {
-        return put(out, b"\\n");
-    }
-    if byte >= 32 && byte <= 126 {
-        return put(out, &[byte]);
-    }
-    put(out, b"\\x")?;
-    put(out, &[glyph(byte / 16), glyph(byte % 16)])
-}
-
-fn put_escapes(out: &mut List<u8>, text: &[u8]) -> Result<(), AllocError>
-    ensures { OnOk result (out.new ≡ out.old ++ flat_map escape_of text.now) }
-{
-    for byte in text {
-        put_escape(out, *byte)?;
-    }
-    Ok(())
-}
-
-fn put_quoted(out: &mut List<u8>, text: &[u8]) -> Result<(), AllocError>
-    ensures { OnOk result (out.new ≡ out.old ++ quoted_text text.now) }
-{
-    put(out, b"\"")?;
-    put_escapes(out, text)?;
-    put(out, b"\"")
 }
 
 // The words of a line that names one object.

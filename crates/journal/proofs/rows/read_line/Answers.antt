@@ -114,18 +114,18 @@ returns-in-Ok-all1-8 c = line-read (nows c.args.words.now) c.args.kind TraceKind
 pub returns-in-Err-all1-8 : goal.returns-in-Err-all1-8
 returns-in-Err-all1-8 c = line-read (nows c.args.words.now) c.args.kind TraceKind.Unwork _ c.in-Unwork.is (c.in-Err-all1-8.ensures ∙ both-same c.name-in-Unwork.ensures refl)
 
-pub returns-in-Ok-stated : goal.returns-in-Ok-stated
+pub returns-in-Ok-read_stated : goal.returns-in-Ok-read_stated
 unfolding line_in
-returns-in-Ok-stated c = rw (c.in-Done.is, c.done.ensures) (ap (result_map (line_made TraceKind.Done)) (sym (sym c.stated.ensures ∙ c.in-Ok-stated.is)))
+returns-in-Ok-read_stated c = rw (c.in-Done.is, c.make_done.ensures) (ap (result_map (line_made TraceKind.Done)) (sym (sym c.read_stated.ensures ∙ c.in-Ok-read_stated.is)))
 
-pub returns-in-Err-stated : goal.returns-in-Err-stated
+pub returns-in-Err-read_stated : goal.returns-in-Err-read_stated
 unfolding line_in
-returns-in-Err-stated c = rw c.in-Done.is (ap (result_map (line_made TraceKind.Done)) (sym (sym c.stated.ensures ∙ c.in-Err-stated.is)))
+returns-in-Err-read_stated c = rw c.in-Done.is (ap (result_map (line_made TraceKind.Done)) (sym (sym c.read_stated.ensures ∙ c.in-Err-read_stated.is)))
 
-pub returns-in-Ok-stated-2 : goal.returns-in-Ok-stated-2
+pub returns-in-Ok-read_stated-2 : goal.returns-in-Ok-read_stated-2
 unfolding line_in
-returns-in-Ok-stated-2 c = rw (c.in-Again.is, c.again.ensures) (ap (result_map (line_made TraceKind.Again)) (sym (sym c.stated-in-Again.ensures ∙ c.in-Ok-stated-2.is)))
+returns-in-Ok-read_stated-2 c = rw (c.in-Again.is, c.make_again.ensures) (ap (result_map (line_made TraceKind.Again)) (sym (sym c.read_stated-in-Again.ensures ∙ c.in-Ok-read_stated-2.is)))
 
-pub returns-in-Err-stated-2 : goal.returns-in-Err-stated-2
+pub returns-in-Err-read_stated-2 : goal.returns-in-Err-read_stated-2
 unfolding line_in
-returns-in-Err-stated-2 c = rw c.in-Again.is (ap (result_map (line_made TraceKind.Again)) (sym (sym c.stated-in-Again.ensures ∙ c.in-Err-stated-2.is)))
+returns-in-Err-read_stated-2 c = rw c.in-Again.is (ap (result_map (line_made TraceKind.Again)) (sym (sym c.read_stated-in-Again.ensures ∙ c.in-Err-read_stated-2.is)))

@@ -3,8 +3,8 @@ use Rattle.std.proofs.lemmas.List.{length-map}
 use Rattle.std.proofs.lemmas.Bool.{eqb-true, eqb-false}
 use Rattle.rt_plain.specs.text.TraceRows.{are_counts, counts_in}
 use Rattle.rt_plain.proofs.text.TraceLemmas.{cut_with_cores, cut_without_cores}
-use Rattle.journal.proofs.reading.cut_told.Goals as goal
-use Rattle.journal.proofs.reading.cut_told.Goals.{then-is_empty-via-then-is_empty, then-is_empty-via-else-is_empty+then-counts-gt8}
+use Rattle.journal.proofs.reading.read_cut.Goals as goal
+use Rattle.journal.proofs.reading.read_cut.Goals.{then-is_empty-via-then-is_empty, then-is_empty-via-else-is_empty+then-counts-gt8}
 
 pub returns-then-is_empty : goal.returns-then-is_empty
 returns-then-is_empty c =
