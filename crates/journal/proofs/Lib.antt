@@ -1,4 +1,3 @@
 pub mod HeaderLemmas
 pub mod CutLemmas
-pub mod CodeLemmas
 pub mod ConsoleLemmas

@@ -1,3 +1,4 @@
 pub mod JournalSeen
 pub mod Headers
 pub mod Ending
+pub mod Spelled

@@ -7,6 +7,8 @@ mod header;
 pub mod laws;
 mod reading;
 mod rows;
+mod shown;
+mod table;
 mod traces;
 mod writing;
 
