@@ -40,6 +40,13 @@ impl Mailbox {
         self.ring.len() as u8
     }
 
+    /// How many words it may hold.
+    pub fn size(&self) -> u8
+        ensures { result ≡ self.now.size }
+    {
+        self.ring.capacity() as u8
+    }
+
     /// Puts a word at the end, as RT-Thread's `rt_mb_send`. `Full` comes exactly where it holds as
     /// many words as its size.
     pub fn try_send(&mut self, word: u32) -> Result<(), Full>

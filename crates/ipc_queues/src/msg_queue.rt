@@ -46,6 +46,20 @@ impl MsgQueue {
         self.ring.len() as u8
     }
 
+    /// How many messages it may hold.
+    pub fn size(&self) -> u8
+        ensures { result ≡ self.now.size }
+    {
+        self.ring.capacity() as u8
+    }
+
+    /// The most bytes of one message.
+    pub fn max(&self) -> u8
+        ensures { result ≡ self.now.max }
+    {
+        self.max
+    }
+
     // A copy of a text that isn't too long.
     fn short_copy(&self, text: &Text) -> Result<Text, PutFault>
         ensures short { IsOk result ↔ (length text.now ≤ self.now.max) }

@@ -7,11 +7,13 @@ use Rattle.object_box.specs.declared.fault.Make.{Make}
 use Rattle.object_box.specs.declared.fault.Make.TheVariants.{Taken, ClassFull}
 use Rattle.rt_plain.specs.declared.board.SemDef.{SemDef}
 use Rattle.rt_plain.specs.declared.board.EventDef.{EventDef}
-use Rattle.rt_plain.specs.kernel.State.{Sem, EventObj}
-use Rattle.rt_plain.specs.kernel.Opening.{new_sem, new_event}
+use Rattle.rt_plain.specs.declared.board.MailboxDef.{MailboxDef}
+use Rattle.rt_plain.specs.declared.board.QueueDef.{QueueDef}
+use Rattle.rt_plain.specs.kernel.State.{Sem, EventObj, Mailbox, MsgQueue}
+use Rattle.rt_plain.specs.kernel.Opening.{new_sem, new_event, new_mailbox, new_queue}
 use Rattle.rt_plain.proofs.text.FieldLemmas.{is_word}
-use Rattle.kernel_tables.specs.Opened.{MayCreateSems, MayCreateEvents}
-use Rattle.kernel_tables.specs.Tabled.{Tabled, CreatesSem, CreatesEvent, found_sem, found_event}
+use Rattle.kernel_tables.specs.Opened.{MayCreateSems, MayCreateEvents, MayCreateMailboxes, MayCreateQueues}
+use Rattle.kernel_tables.specs.Tabled.{Tabled, CreatesSem, CreatesEvent, CreatesMailbox, CreatesQueue, found_sem, found_event, found_mailbox, found_queue}
 
 -- those of the first definitions, newest first
 abbrev made_of : {D O : Type 0} → (D → O) → List D → ℕ → List O
@@ -53,6 +55,16 @@ event_made old new event (Ok done) made none room = made.1.1
 event_made old new event (Err (Taken number)) made none room = let missing : is_some (found_event old.events event.name) ≡ false = ap is_some none in absurd (cc (made.0, missing))
 event_made old new event (Err (ClassFull limit)) made none room = absurd (omega (arith, made.1.0, room))
 
+mailbox_made : (old new : Tabled) (mailbox : Mailbox) (r : Result Unit Make) → CreatesMailbox old new mailbox r → found_mailbox old.mailboxes mailbox.name ≡ None → length old.mailboxes < old.mailbox_limit → new ≡ record old { mailboxes = mailbox ∷ old.mailboxes }
+mailbox_made old new mailbox (Ok done) made none room = made.1.1
+mailbox_made old new mailbox (Err (Taken number)) made none room = let missing : is_some (found_mailbox old.mailboxes mailbox.name) ≡ false = ap is_some none in absurd (cc (made.0, missing))
+mailbox_made old new mailbox (Err (ClassFull limit)) made none room = absurd (omega (arith, made.1.0, room))
+
+queue_made : (old new : Tabled) (queue : MsgQueue) (r : Result Unit Make) → CreatesQueue old new queue r → found_queue old.queues queue.name ≡ None → length old.queues < old.queue_limit → new ≡ record old { queues = queue ∷ old.queues }
+queue_made old new queue (Ok done) made none room = made.1.1
+queue_made old new queue (Err (Taken number)) made none room = let missing : is_some (found_queue old.queues queue.name) ≡ false = ap is_some none in absurd (cc (made.0, missing))
+queue_made old new queue (Err (ClassFull limit)) made none room = absurd (omega (arith, made.1.0, room))
+
 -- one semaphore of the board more
 pub sems_more : (k old new : Tabled) (defs : List SemDef) (i : ℕ) (def : SemDef) (sem : Sem) (r : Result Unit Make) → MayCreateSems k defs → old ≡ record k { sems = reverse (map new_sem (take i defs)) } → i < length defs → def ≡ get_or defs i def → sem ≡ new_sem def → CreatesSem old new sem r
     → new ≡ record k { sems = reverse (map new_sem (take (i + 1) defs)) }
@@ -72,9 +84,33 @@ events_more k old new defs i def event r may before there is same creates =
     event_made now new (new_event def) r made (unmade new_event (λ (e : EventObj). e.name) defs i def may.names there is i (omega arith)) (omega (arith, may.room, count, there))
     ∙ ap (λ (events : List EventObj). record k { events = events }) (ap (λ d. new_event d ∷ made_of new_event defs i) is ∙ sym (one_more new_event defs i def there))
 
+pub mailboxes_more : (k old new : Tabled) (defs : List MailboxDef) (i : ℕ) (def : MailboxDef) (mailbox : Mailbox) (r : Result Unit Make) → MayCreateMailboxes k defs → old ≡ record k { mailboxes = reverse (map new_mailbox (take i defs)) } → i < length defs → def ≡ get_or defs i def → mailbox ≡ new_mailbox def → CreatesMailbox old new mailbox r
+    → new ≡ record k { mailboxes = reverse (map new_mailbox (take (i + 1) defs)) }
+mailboxes_more k old new defs i def mailbox r may before there is same creates =
+    let now = record k { mailboxes = made_of new_mailbox defs i } in
+    let made : CreatesMailbox now new (new_mailbox def) r = subst (λ o. CreatesMailbox o new (new_mailbox def) r) before (subst (λ s. CreatesMailbox old new s r) same creates) in
+    let count = count-made new_mailbox defs i (omega (arith, there)) in
+    mailbox_made now new (new_mailbox def) r made (unmade new_mailbox (λ (e : Mailbox). e.name) defs i def may.names there is i (omega arith)) (omega (arith, may.room, count, there))
+    ∙ ap (λ (mailboxes : List Mailbox). record k { mailboxes = mailboxes }) (ap (λ d. new_mailbox d ∷ made_of new_mailbox defs i) is ∙ sym (one_more new_mailbox defs i def there))
+
+pub queues_more : (k old new : Tabled) (defs : List QueueDef) (i : ℕ) (def : QueueDef) (queue : MsgQueue) (r : Result Unit Make) → MayCreateQueues k defs → old ≡ record k { queues = reverse (map new_queue (take i defs)) } → i < length defs → def ≡ get_or defs i def → queue ≡ new_queue def → CreatesQueue old new queue r
+    → new ≡ record k { queues = reverse (map new_queue (take (i + 1) defs)) }
+queues_more k old new defs i def queue r may before there is same creates =
+    let now = record k { queues = made_of new_queue defs i } in
+    let made : CreatesQueue now new (new_queue def) r = subst (λ o. CreatesQueue o new (new_queue def) r) before (subst (λ s. CreatesQueue old new s r) same creates) in
+    let count = count-made new_queue defs i (omega (arith, there)) in
+    queue_made now new (new_queue def) r made (unmade new_queue (λ (e : MsgQueue). e.name) defs i def may.names there is i (omega arith)) (omega (arith, may.room, count, there))
+    ∙ ap (λ (queues : List MsgQueue). record k { queues = queues }) (ap (λ d. new_queue d ∷ made_of new_queue defs i) is ∙ sym (one_more new_queue defs i def there))
+
 -- all of them
 pub sems_all : (k : Tabled) (defs : List SemDef) (i : ℕ) → length defs ≤ i → record k { sems = reverse (map new_sem (take i defs)) } ≡ record k { sems = reverse (map new_sem defs) }
 sems_all k defs i le = ap (λ ds. record k { sems = reverse (map new_sem ds) }) (take_all i defs le)
 
 pub events_all : (k : Tabled) (defs : List EventDef) (i : ℕ) → length defs ≤ i → record k { events = reverse (map new_event (take i defs)) } ≡ record k { events = reverse (map new_event defs) }
 events_all k defs i le = ap (λ ds. record k { events = reverse (map new_event ds) }) (take_all i defs le)
+
+pub mailboxes_all : (k : Tabled) (defs : List MailboxDef) (i : ℕ) → length defs ≤ i → record k { mailboxes = reverse (map new_mailbox (take i defs)) } ≡ record k { mailboxes = reverse (map new_mailbox defs) }
+mailboxes_all k defs i le = ap (λ ds. record k { mailboxes = reverse (map new_mailbox ds) }) (take_all i defs le)
+
+pub queues_all : (k : Tabled) (defs : List QueueDef) (i : ℕ) → length defs ≤ i → record k { queues = reverse (map new_queue (take i defs)) } ≡ record k { queues = reverse (map new_queue defs) }
+queues_all k defs i le = ap (λ ds. record k { queues = reverse (map new_queue ds) }) (take_all i defs le)

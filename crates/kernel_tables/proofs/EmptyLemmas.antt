@@ -13,6 +13,10 @@ use Rattle.object_box.specs.declared.object.Object.{Object}
 use Rattle.object_box.specs.Classes.{AllObjects}
 use Rattle.object_box.specs.Objects.{IsSound}
 use Rattle.ipc_counts.specs.Flags.{Flagged}
+use Rattle.ipc_queues.specs.Channels.{slots_of}
+use Rattle.ipc_queues.specs.Ends.{PlainEnds, end_waits}
+use Rattle.ipc_queues.specs.declared.channels.ChannelKind.{ChannelKind}
+use Rattle.ipc_queues.specs.declared.ends.End.{End}
 use Rattle.kernel_tables.specs.declared.lists.Lists.{Lists}
 use Rattle.kernel_tables.specs.Listed.{row_with, wait_row, waits_in, slots_in}
 use Rattle.kernel_tables.specs.WaitLists.{waits_for, objects_in, calls_on, calls_in, is_known}
@@ -60,8 +64,8 @@ empty_rows : (w : Waits) (in_list : Call → Bool) (threads : List Thread) (n : 
 empty_rows w in_list threads n never count empty = ap (λ (v : Waits). v.rows) empty ∙ ap (λ m. replicate m None) count ∙ no_rows in_list threads never
 
 -- the tables of a board without objects
-pub tied_empty : (threads : List Thread) (defs : List ThreadDef) (l : Lists) (sems events n : ℕ) → AreEmpty l sems events n → n ≡ length threads → threads ≡ map new_script_thread defs → IsTied threads l
-tied_empty threads defs l sems events n empty count are = record {
+pub tied_empty : (threads : List Thread) (defs : List ThreadDef) (l : Lists) (sems events mailboxes queues n : ℕ) → AreEmpty l sems events mailboxes queues n → n ≡ length threads → threads ≡ map new_script_thread defs → IsTied threads l
+tied_empty threads defs l sems events mailboxes queues n empty count are = record {
   slots = by_slots;
   lists = record {
     sound = by_sound;
@@ -73,18 +77,29 @@ tied_empty threads defs l sems events n empty count are = record {
   by_slots : (list : WaitList) → slots_in l list ≡ (objects_in l.objects list).limit
   by_slots WaitList.Sem = empty.free_sems.len ∙ sym empty.sem_limit
   by_slots WaitList.Event = empty.free_events.len ∙ sym empty.event_limit
+  by_slots (WaitList.Channel ChannelKind.Mailbox end) = empty.mailbox_slots ∙ sym empty.mailbox_limit
+  by_slots (WaitList.Channel ChannelKind.MsgQueue end) = empty.queue_slots ∙ sym empty.queue_limit
 
   by_sound : (list : WaitList) → IsSound (objects_in l.objects list)
   by_sound WaitList.Sem = empty.sems_sound
   by_sound WaitList.Event = empty.events_sound
+  by_sound (WaitList.Channel ChannelKind.Mailbox end) = empty.mailboxes_sound
+  by_sound (WaitList.Channel ChannelKind.MsgQueue end) = empty.queues_sound
 
   by_objects : (list : WaitList) → (objects_in l.objects list).objects ≡ []
   by_objects WaitList.Sem = empty.sem_objects
   by_objects WaitList.Event = empty.event_objects
+  by_objects (WaitList.Channel ChannelKind.Mailbox end) = empty.mailbox_objects
+  by_objects (WaitList.Channel ChannelKind.MsgQueue end) = empty.queue_objects
+
+  within : (kind : ChannelKind) (end : End) (i : ℕ) → i < (objects_in l.objects (WaitList.Channel kind end)).limit → i < slots_of l.channels kind
+  within kind end i below = subst (λ m. i < m) (sym (by_slots (WaitList.Channel kind end))) below
 
   by_waits : (list : WaitList) (i : ℕ) → i < (objects_in l.objects list).limit → waits_in l list i ≡ empty_waits n
   by_waits WaitList.Sem i below = empty.free_sems.free i _ (subst (λ m. i < m) (sym (by_slots WaitList.Sem)) below)
   by_waits WaitList.Event i below = empty.free_events.free i _ (subst (λ m. i < m) (sym (by_slots WaitList.Event)) below)
+  by_waits (WaitList.Channel kind End.Receivers) i below = ap (λ (e : PlainEnds). end_waits e End.Receivers) (empty.free_channels kind i (within kind End.Receivers i below))
+  by_waits (WaitList.Channel kind End.Senders) i below = ap (λ (e : PlainEnds). end_waits e End.Senders) (empty.free_channels kind i (within kind End.Senders i below))
 
   nobody : (list : WaitList) (i : ℕ) (call : Call) → calls_in l.objects list i call ≡ false
   nobody list i call = no_call (waits_for list) (objects_in l.objects list).objects i call (by_objects list)

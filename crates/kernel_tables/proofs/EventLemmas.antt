@@ -21,6 +21,9 @@ use Rattle.ipc_counts.specs.Counted.{Counted}
 use Rattle.ipc_counts.specs.Flags.{Flagged}
 use Rattle.ipc_counts.specs.declared.want.Want.{Want}
 use Rattle.ipc_counts.specs.Sent.{want_at, wanting_of, wanting, woken_by, rows_without, sent}
+use Rattle.ipc_queues.specs.Channels.{PlainChannels, slots_of, waits_at}
+use Rattle.ipc_queues.specs.declared.channels.ChannelKind.{ChannelKind}
+use Rattle.ipc_queues.specs.declared.ends.End.{End}
 use Rattle.kernel_tables.specs.declared.lists.Lists.{Lists}
 use Rattle.kernel_tables.specs.declared.wait_list.WaitList.{WaitList}
 use Rattle.kernel_tables.specs.Listed.{sem_at, event_at, plain_event, wait_row, waits_in, wants_in, slots_in, IsShownAs}
@@ -100,8 +103,8 @@ received-state c events name i want old new result sound number there read exact
         ∙ ap chosen exactly
 
 -- a slot with the same waiters keeps those of all
-pub event-keeps : (l new : Lists) (i : ℕ) (slot : Flagged) → new.sems.items ≡ l.sems.items → new.events.items ≡ slice_set l.events.items i slot → slot.waiters.rows ≡ (event_at l.events.items i).waiters.rows → slot.wants ≡ (event_at l.events.items i).wants → KeepsWaits l new
-event-keeps l new i slot sems events rows wants = record {
+pub event-keeps : (l new : Lists) (i : ℕ) (slot : Flagged) → new.sems.items ≡ l.sems.items → new.events.items ≡ slice_set l.events.items i slot → new.channels ≡ l.channels → slot.waiters.rows ≡ (event_at l.events.items i).waiters.rows → slot.wants ≡ (event_at l.events.items i).wants → KeepsWaits l new
+event-keeps l new i slot sems events channels rows wants = record {
   slots = by_list;
   rows = by_rows;
   wants = λ j. ap (λ (xs : List Flagged). (event_at xs j).wants) events ∙ set-part (λ (e : Flagged). e.wants) l.events.items j i slot no_event wants;
@@ -109,10 +112,12 @@ event-keeps l new i slot sems events rows wants = record {
   by_list : (list : WaitList) → slots_in new list ≡ slots_in l list
   by_list WaitList.Sem = ap length sems
   by_list WaitList.Event = ap length events ∙ length-set l.events.items i slot
+  by_list (WaitList.Channel kind end) = ap (λ (c : PlainChannels). slots_of c kind) channels
 
   by_rows : (list : WaitList) (j : ℕ) → (waits_in new list j).rows ≡ (waits_in l list j).rows
   by_rows WaitList.Sem j = ap (λ (xs : List Counted). (sem_at xs j).waiters.rows) sems
   by_rows WaitList.Event j = ap (λ (xs : List Flagged). (event_at xs j).waiters.rows) events ∙ set-part (λ (e : Flagged). e.waiters.rows) l.events.items j i slot no_event rows
+  by_rows (WaitList.Channel kind end) j = ap (λ (c : PlainChannels). (waits_at c kind end j).rows) channels
 
 -- a receive keeps the waiters
 pub received-rows : (want : PlainWant) (old new : Flagged) (result : Option ℕ) → IfSome result (λ _. new ≡ record old { flags = flags_after old.flags want }) → IfNone result (new ≡ old) → new.waiters.rows ≡ old.waiters.rows
@@ -194,8 +199,8 @@ module _ (threads : List Thread) (l : Lists) (i : ℕ) (t : IsTied threads l) (t
   )
 
   -- it keeps the tie, once those whom it woke are awake
-  pub tied-sent : (mask : ℕ) (woken : List Thread) (new : Lists) → woken ≡ all_given threads (woken_by (bit_or event.flags mask) (wanting event)) → new.objects ≡ l.objects → new.sems.items ≡ l.sems.items → new.events.items ≡ slice_set l.events.items i (sent event mask) → IsTied woken new
-  tied-sent mask woken new woken_is objects sems events = record {
+  pub tied-sent : (mask : ℕ) (woken : List Thread) (new : Lists) → woken ≡ all_given threads (woken_by (bit_or event.flags mask) (wanting event)) → new.objects ≡ l.objects → new.sems.items ≡ l.sems.items → new.events.items ≡ slice_set l.events.items i (sent event mask) → new.channels ≡ l.channels → IsTied woken new
+  tied-sent mask woken new woken_is objects sems events channels = record {
     slots = λ list. slots list ∙ t.slots list ∙ ap (λ (a : AllObjects). (objects_in a list).limit) (sym objects);
     lists = subst (λ (a : AllObjects). AreTied woken a (waits_in new)) (sym objects) (tied-woken threads woken ts l.objects (waits_in l) (waits_in new) WaitList.Event i t.lists (sent-each flags) awake after);
     wants = subst (λ (a : AllObjects). AreWanted woken a (wants_in new)) (sym objects) (wanted-woken threads woken ts l.objects (wants_in l) (wants_in new) t.wants awake (λ j. ap (λ (xs : List Flagged). (event_at xs j).wants) events ∙ set-part (λ (e : Flagged). e.wants) l.events.items j i (sent event mask) no_event refl));
@@ -212,6 +217,7 @@ module _ (threads : List Thread) (l : Lists) (i : ℕ) (t : IsTied threads l) (t
     slots : (list : WaitList) → slots_in new list ≡ slots_in l list
     slots WaitList.Sem = ap length sems
     slots WaitList.Event = ap length events ∙ length-set l.events.items i (sent event mask)
+    slots (WaitList.Channel kind end) = ap (λ (c : PlainChannels). slots_of c kind) channels
 
     here : (j : ℕ) → (event_at (slice_set l.events.items i (sent event mask)) j).waiters.rows ≡ (if eqb j i then cleared (event_at l.events.items j).waiters.rows ts else (event_at l.events.items j).waiters.rows)
     here j = by_test (eqb j i) refl where
@@ -227,6 +233,10 @@ module _ (threads : List Thread) (l : Lists) (i : ℕ) (t : IsTied threads l) (t
     after : (other : WaitList) (j : ℕ) → (waits_in new other j).rows ≡ (if is_at other j (Some (WaitList.Event, i)) then cleared (waits_in l other j).rows ts else (waits_in l other j).rows)
     after WaitList.Sem j = ap (λ (xs : List Counted). (sem_at xs j).waiters.rows) sems
     after WaitList.Event j = ap (λ (xs : List Flagged). (event_at xs j).waiters.rows) events ∙ here j
+    after (WaitList.Channel ChannelKind.Mailbox End.Receivers) j = ap (λ (c : PlainChannels). (waits_at c ChannelKind.Mailbox End.Receivers j).rows) channels
+    after (WaitList.Channel ChannelKind.Mailbox End.Senders) j = ap (λ (c : PlainChannels). (waits_at c ChannelKind.Mailbox End.Senders j).rows) channels
+    after (WaitList.Channel ChannelKind.MsgQueue End.Receivers) j = ap (λ (c : PlainChannels). (waits_at c ChannelKind.MsgQueue End.Receivers j).rows) channels
+    after (WaitList.Channel ChannelKind.MsgQueue End.Senders) j = ap (λ (c : PlainChannels). (waits_at c ChannelKind.MsgQueue End.Senders j).rows) channels
 
   -- the waiters with what they want, by the threads
   tied-wanting : (name : List ℕ) → number_of l.objects.event.objects name ≡ Some i → wanting event ≡ wanting_on threads (plain_event l.events.items (record { no = i; name = name }))
@@ -252,8 +262,8 @@ module _ (threads : List Thread) (l : Lists) (i : ℕ) (t : IsTied threads l) (t
 
   -- what it leaves
   pub sent-state : (name : List ℕ) (mask : ℕ) (plain : PlainEvent) → number_of l.objects.event.objects name ≡ Some i → found_event (map (plain_event l.events.items) l.objects.event.objects) name ≡ Some plain
-      → record (shown threads l.objects l.sems.items l.events.items) { threads = all_given threads (woken_by (bit_or event.flags mask) (wanting event)); events = map (plain_event (slice_set l.events.items i (sent event mask))) l.objects.event.objects } ≡ sent_to (shown threads l.objects l.sems.items l.events.items) plain mask
-  sent-state name mask plain number found = λ k. record (shown threads l.objects l.sems.items l.events.items) {
+      → record (shown threads l.objects l.sems.items l.events.items l.channels) { threads = all_given threads (woken_by (bit_or event.flags mask) (wanting event)); events = map (plain_event (slice_set l.events.items i (sent event mask))) l.objects.event.objects } ≡ sent_to (shown threads l.objects l.sems.items l.events.items l.channels) plain mask
+  sent-state name mask plain number found = λ k. record (shown threads l.objects l.sems.items l.events.items l.channels) {
     threads = all_given threads (sent-woken name mask plain number found k);
     events = flags k;
   }
@@ -282,35 +292,40 @@ has_event _ = false
 event-made : (a : AllObjects) (name : List ℕ) (i : ℕ) → IsMade a (made_event a name i) has_event name i
 event-made a name i WaitList.Sem = refl
 event-made a name i WaitList.Event = refl
+event-made a name i (WaitList.Channel ChannelKind.Mailbox end) = refl
+event-made a name i (WaitList.Channel ChannelKind.MsgQueue end) = refl
 
-event-sound : (a b : AllObjects) → ((list : WaitList) → IsSound (objects_in a list)) → IsSound b.event → b.sem ≡ a.sem → (list : WaitList) → IsSound (objects_in b list)
-event-sound a b sound own other WaitList.Sem = subst IsSound (sym other) (sound WaitList.Sem)
-event-sound a b sound own other WaitList.Event = own
+event-sound : (a b : AllObjects) → ((list : WaitList) → IsSound (objects_in a list)) → IsSound b.event → b.sem ≡ a.sem → b.mailbox ≡ a.mailbox → b.msgqueue ≡ a.msgqueue → (list : WaitList) → IsSound (objects_in b list)
+event-sound a b sound own sem mailbox queue WaitList.Sem = subst IsSound (sym sem) (sound WaitList.Sem)
+event-sound a b sound own sem mailbox queue WaitList.Event = own
+event-sound a b sound own sem mailbox queue (WaitList.Channel ChannelKind.Mailbox end) = subst IsSound (sym mailbox) (sound (WaitList.Channel ChannelKind.Mailbox end))
+event-sound a b sound own sem mailbox queue (WaitList.Channel ChannelKind.MsgQueue end) = subst IsSound (sym queue) (sound (WaitList.Channel ChannelKind.MsgQueue end))
 
 -- the tables with one event object more, whose slot nobody waited in
 pub tied-made : (threads : List Thread) (l new : Lists) (name : List ℕ) (i : ℕ) (order : WaitOrder) (old slot : Flagged) → IsTied threads l → new.objects ≡ made_event l.objects name i → number_of l.objects.event.objects name ≡ None → IsSound new.objects.event
-    → new.sems.items ≡ l.sems.items → new.events.items ≡ slice_set l.events.items i slot → old ≡ event_at l.events.items i → slot ≡ record old { flags = 0; waiters = record old.waiters { order = order } } → IsTied threads new
-tied-made threads l new name i order old slot tied is none sound sems events read reset =
-    lists-made threads l new has_event name i tied (λ list. ap (λ b. objects_in b list) is ∙ event-made l.objects name i list) by_list (event-sound l.objects new.objects tied.lists.sound sound (ap (λ b. b.sem) is))
-    (event-keeps l new i slot sems events (ap (λ (e : Flagged). e.waiters.rows) reset ∙ ap (λ (e : Flagged). e.waiters.rows) read) (ap (λ (e : Flagged). e.wants) reset ∙ ap (λ (e : Flagged). e.wants) read))
+    → new.sems.items ≡ l.sems.items → new.events.items ≡ slice_set l.events.items i slot → new.channels ≡ l.channels → old ≡ event_at l.events.items i → slot ≡ record old { flags = 0; waiters = record old.waiters { order = order } } → IsTied threads new
+tied-made threads l new name i order old slot tied is none sound sems events channels read reset =
+    lists-made threads l new has_event name i tied (λ list. ap (λ b. objects_in b list) is ∙ event-made l.objects name i list) by_list (event-sound l.objects new.objects tied.lists.sound sound (ap (λ b. b.sem) is) (ap (λ b. b.mailbox) is) (ap (λ b. b.msgqueue) is))
+    (event-keeps l new i slot sems events channels (ap (λ (e : Flagged). e.waiters.rows) reset ∙ ap (λ (e : Flagged). e.waiters.rows) read) (ap (λ (e : Flagged). e.wants) reset ∙ ap (λ (e : Flagged). e.wants) read))
   where
     by_list : (list : WaitList) → has_event list ≡ true → number_of (objects_in l.objects list).objects name ≡ None
     by_list WaitList.Event own = none
     by_list WaitList.Sem own = absurd (false≢true own)
+    by_list (WaitList.Channel kind end) own = absurd (false≢true own)
 
 -- the list of a free slot is empty
 pub free-slot : (threads : List Thread) (l : Lists) (i : ℕ) (old : Flagged) → IsTied threads l → i < l.objects.event.limit → has_number l.objects.event.objects i ≡ false → old ≡ event_at l.events.items i → length (line old.waiters) ≡ 0
 free-slot threads l i old tied there free at = rw at (free-line receives_event l.objects.event.objects i threads (waits_in l WaitList.Event i) (tied.lists.rows WaitList.Event i there) free)
 
 -- a creation
-pub made-seen : (threads : List Thread) (a made : AllObjects) (sems : List Counted) (events : List Flagged) (name : List ℕ) (order : WaitOrder) (i : ℕ) (old new : Flagged) → i < length events → number_of a.event.objects name ≡ None
+pub made-seen : (threads : List Thread) (a made : AllObjects) (sems : List Counted) (events : List Flagged) (channels : PlainChannels) (name : List ℕ) (order : WaitOrder) (i : ℕ) (old new : Flagged) → i < length events → number_of a.event.objects name ≡ None
     → length a.event.objects < a.event.limit → has_number a.event.objects i ≡ false → made ≡ made_event a name i → new ≡ record old { flags = 0; waiters = record old.waiters { order = order } }
-    → CreatesEvent (shown threads a sems events) (shown threads made sems (slice_set events i new)) (record { name = name; flags = 0; order = order }) (Ok tt)
-made-seen threads a made sems events name order i old new there none room free is reset = (
+    → CreatesEvent (shown threads a sems events channels) (shown threads made sems (slice_set events i new) channels) (record { name = name; flags = 0; order = order }) (Ok tt)
+made-seen threads a made sems events channels name order i old new there none room free is reset = (
   event-missing a.event events name none,
   (
     omega (arith, room, length-map a.event.objects (plain_event events)),
-    ap (λ (b : AllObjects). shown threads b sems (slice_set events i new)) is ∙ ap (λ (all : List PlainEvent). record (shown threads a sems events) { events = all }) seen,
+    ap (λ (b : AllObjects). shown threads b sems (slice_set events i new) channels) is ∙ ap (λ (all : List PlainEvent). record (shown threads a sems events channels) { events = all }) seen,
   ),
 )
   where
@@ -323,11 +338,11 @@ made-seen threads a made sems events name order i old new there none room free i
         ∙ ap (λ l. record { name = name; flags = 0; order = order } ∷ l) (free-same (plain_event events) (plain_event (slice_set events i new)) a.event.objects i free (λ o other. ap (seen_as o.name) (set-there events o.no i new no_event other)))
 
 -- no creation
-pub refused-seen : (threads : List Thread) (a made : AllObjects) (sems : List Counted) (events : List Flagged) (event : PlainEvent) (fault : Make) → MakeCause a.event event.name (Err fault) → made ≡ a
-    → CreatesEvent (shown threads a sems events) (shown threads made sems events) event (Err fault)
-refused-seen threads a made sems events event (Taken number) cause same = (ap is_some (event-there a.event events event.name number cause), ap (λ b. shown threads b sems events) same)
-refused-seen threads a made sems events event (ClassFull limit) cause same =
-    (event-missing a.event events event.name cause.0, (length-map a.event.objects (plain_event events) ∙ cause.1.0, ap (λ b. shown threads b sems events) same))
+pub refused-seen : (threads : List Thread) (a made : AllObjects) (sems : List Counted) (events : List Flagged) (channels : PlainChannels) (event : PlainEvent) (fault : Make) → MakeCause a.event event.name (Err fault) → made ≡ a
+    → CreatesEvent (shown threads a sems events channels) (shown threads made sems events channels) event (Err fault)
+refused-seen threads a made sems events channels event (Taken number) cause same = (ap is_some (event-there a.event events event.name number cause), ap (λ b. shown threads b sems events channels) same)
+refused-seen threads a made sems events channels event (ClassFull limit) cause same =
+    (event-missing a.event events event.name cause.0, (length-map a.event.objects (plain_event events) ∙ cause.1.0, ap (λ b. shown threads b sems events channels) same))
 
 pub err-is : (r : Result Unit Make) (fault : Make) → IsErr r × IsErrAnd r (λ e. e ≡ fault) → r ≡ Err fault
 err-is (Ok done) fault e = absurd e.1
@@ -340,28 +355,34 @@ removed_event a i = record a { event = removed a.event i }
 event-dropped : (a : AllObjects) (i : ℕ) → IsDropped a (removed_event a i) has_event i
 event-dropped a i WaitList.Sem = refl
 event-dropped a i WaitList.Event = refl
+event-dropped a i (WaitList.Channel ChannelKind.Mailbox end) = refl
+event-dropped a i (WaitList.Channel ChannelKind.MsgQueue end) = refl
 
 -- an event object that nobody waits for is gone
 pub tied-removed : (threads : List Thread) (l new : Lists) (name : List ℕ) (i : ℕ) → IsTied threads l → number_of l.objects.event.objects name ≡ Some i → line (waits_in l WaitList.Event i) ≡ [] → new.objects ≡ removed_event l.objects i → IsSound new.objects.event
-    → new.sems.items ≡ l.sems.items → new.events.items ≡ l.events.items → IsTied threads new
-tied-removed threads l new name i tied e empty is sound sems events =
-    lists-dropped threads l new has_event name i tied (λ list. ap (λ b. objects_in b list) is ∙ event-dropped l.objects i list) by_name by_line (event-sound l.objects new.objects tied.lists.sound sound (ap (λ b. b.sem) is)) (record { slots = by_slots; rows = by_rows; wants = λ j. ap (λ (xs : List Flagged). (event_at xs j).wants) events })
+    → new.sems.items ≡ l.sems.items → new.events.items ≡ l.events.items → new.channels ≡ l.channels → IsTied threads new
+tied-removed threads l new name i tied e empty is sound sems events channels =
+    lists-dropped threads l new has_event name i tied (λ list. ap (λ b. objects_in b list) is ∙ event-dropped l.objects i list) by_name by_line (event-sound l.objects new.objects tied.lists.sound sound (ap (λ b. b.sem) is) (ap (λ b. b.mailbox) is) (ap (λ b. b.msgqueue) is)) (record { slots = by_slots; rows = by_rows; wants = λ j. ap (λ (xs : List Flagged). (event_at xs j).wants) events })
   where
     by_name : (list : WaitList) → has_event list ≡ true → number_of (objects_in l.objects list).objects name ≡ Some i
     by_name WaitList.Event own = e
     by_name WaitList.Sem own = absurd (false≢true own)
+    by_name (WaitList.Channel kind end) own = absurd (false≢true own)
 
     by_line : (list : WaitList) → has_event list ≡ true → line (waits_in l list i) ≡ []
     by_line WaitList.Event own = empty
     by_line WaitList.Sem own = absurd (false≢true own)
+    by_line (WaitList.Channel kind end) own = absurd (false≢true own)
 
     by_slots : (list : WaitList) → slots_in new list ≡ slots_in l list
     by_slots WaitList.Sem = ap length sems
     by_slots WaitList.Event = ap length events
+    by_slots (WaitList.Channel kind end) = ap (λ (c : PlainChannels). slots_of c kind) channels
 
     by_rows : (list : WaitList) (j : ℕ) → (waits_in new list j).rows ≡ (waits_in l list j).rows
     by_rows WaitList.Sem j = ap (λ (xs : List Counted). (sem_at xs j).waiters.rows) sems
     by_rows WaitList.Event j = ap (λ (xs : List Flagged). (event_at xs j).waiters.rows) events
+    by_rows (WaitList.Channel kind end) j = ap (λ (c : PlainChannels). (waits_at c kind end j).rows) channels
 
 -- the wait list of an event object, by its name
 seen-line : (threads : List Thread) (l : Lists) (name : List ℕ) (i : ℕ) → IsTied threads l → number_of l.objects.event.objects name ≡ Some i → line (waits_in l WaitList.Event i) ≡ event_line threads (plain_event l.events.items (record { no = i; name = name }))
@@ -375,11 +396,13 @@ woken-seen threads l name i woken event tied e all is = all ∙ seen-line thread
 
 -- what it leaves
 pub removed-seen : (threads now : List Thread) (l left : Lists) (gone : AllObjects) (name : List ℕ) (i : ℕ) (woken : List ℕ) → IsSound l.objects.event → number_of l.objects.event.objects name ≡ Some i → now ≡ all_woken Code.Error threads woken → IsShownAs l left → gone ≡ removed_event left.objects i
-    → shown now gone left.sems.items left.events.items ≡ without_event (shown threads l.objects l.sems.items l.events.items) name woken
+    → shown now gone left.sems.items left.events.items left.channels ≡ without_event (shown threads l.objects l.sems.items l.events.items l.channels) name woken
 removed-seen threads now l left gone name i woken sound e rows same is =
-    ap (λ b. shown now b left.sems.items left.events.items) (is ∙ ap (λ b. removed_event b i) same.objects)
-    ∙ (λ k. record (shown threads l.objects l.sems.items l.events.items) {
+    ap (λ b. shown now b left.sems.items left.events.items left.channels) (is ∙ ap (λ b. removed_event b i) same.objects)
+    ∙ (λ k. record (shown threads l.objects l.sems.items l.events.items l.channels) {
       threads = rows k;
       sems = same.sems k;
+      mailboxes = same.mailboxes k;
+      queues = same.queues k;
       events = (found-removed (plain_event left.events.items) (λ (x : PlainEvent). x.name) l.objects.event name i sound e (λ o. refl) ∙ ap (filter (λ (x : PlainEvent). not (bytes_eq x.name name))) same.events) k;
     })

@@ -1,3 +1,4 @@
+pub mod ChannelLemmas
 pub mod CreateLemmas
 pub mod EmptyLemmas
 pub mod EventLemmas
@@ -5,8 +6,10 @@ pub mod FoundLemmas
 pub mod ListChangeLemmas
 pub mod ListLemmas
 pub mod MadeLemmas
+pub mod MailboxLemmas
 pub mod ObjectRowLemmas
 pub mod OpenLemmas
+pub mod QueueLemmas
 pub mod SemLemmas
 pub mod ShownLemmas
 pub mod TableLemmas

@@ -14,6 +14,8 @@ use Rattle.object_box.specs.Objects.{ClassObjects, IsSound, has_number, number_o
 use Rattle.ipc_counts.specs.Sent.{want_at}
 use Rattle.ipc_counts.specs.declared.want.Want.{Want}
 use Rattle.kernel_tables.specs.declared.lists.Lists.{Lists}
+use Rattle.ipc_queues.specs.declared.channels.ChannelKind.{ChannelKind}
+use Rattle.ipc_queues.specs.declared.ends.End.{End}
 use Rattle.kernel_tables.specs.declared.wait_list.WaitList.{WaitList}
 use Rattle.kernel_tables.specs.Listed.{wait_row, row_with, waits_in, wants_in, slots_in}
 use Rattle.kernel_tables.specs.Threads.{row_at}
@@ -154,6 +156,10 @@ module _ (threads : List Thread) (a b : AllObjects) (waits : WaitList → ℕ �
       same-list : (l : WaitList) → is_same l l ≡ true
       same-list WaitList.Sem = refl
       same-list WaitList.Event = refl
+      same-list (WaitList.Channel ChannelKind.Mailbox End.Receivers) = refl
+      same-list (WaitList.Channel ChannelKind.Mailbox End.Senders) = refl
+      same-list (WaitList.Channel ChannelKind.MsgQueue End.Receivers) = refl
+      same-list (WaitList.Channel ChannelKind.MsgQueue End.Senders) = refl
 
       on : (d : Bool) → bytes_eq called name ≡ d → mine list ≡ true → bytes_eq called name ≡ false
       on true f own =

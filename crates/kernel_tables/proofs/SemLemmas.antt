@@ -23,9 +23,11 @@ use Rattle.ipc_counts.specs.Flags.{Flagged}
 use Rattle.ipc_counts.specs.Released.{without, Releases as ReleasedBy}
 use Rattle.ipc_counts.specs.declared.sem.SemReleased.{SemReleased}
 use Rattle.ipc_counts.specs.declared.sem.SemReleased.TheVariants.{Woke, Raised, Full}
+use Rattle.ipc_queues.specs.Channels.{PlainChannels, slots_of, waits_at}
+use Rattle.ipc_queues.specs.declared.channels.ChannelKind.{ChannelKind}
 use Rattle.kernel_tables.specs.declared.lists.Lists.{Lists}
 use Rattle.kernel_tables.specs.declared.wait_list.WaitList.{WaitList}
-use Rattle.kernel_tables.specs.Listed.{sem_at, event_at, plain_sem, plain_event, waits_in, slots_in, taken, IsRelisted, IsShownAs}
+use Rattle.kernel_tables.specs.Listed.{sem_at, event_at, plain_sem, plain_event, plain_mailbox, plain_queue, waits_in, slots_in, taken, IsRelisted, IsShownAs}
 use Rattle.kernel_tables.specs.Tabled.{Tabled, found_sem, put_sem, sems_taken, sem_line, Releases, ReleasesSem, CreatesSem, woken_row, all_woken, without_sem}
 use Rattle.kernel_tables.specs.Threads.{with_row}
 use Rattle.kernel_tables.specs.Tied.{IsTied}
@@ -99,8 +101,8 @@ take-seen c sems name i result old new sound there e at exactly taken kept = by_
         ∙ sym (ap (λ b. if b then put_sem (map (plain_sem sems) c.objects) (record (plain_sem sems (record { no = i; name = name })) { value = (sem_at sems i).value - 1 }) else map (plain_sem sems) c.objects) test)
 
 -- a slot with the same waiters keeps those of all
-pub slot-keeps : (l new : Lists) (i : ℕ) (slot : Counted) → new.sems.items ≡ set l.sems.items i slot → new.events.items ≡ l.events.items → slot.waiters.rows ≡ (sem_at l.sems.items i).waiters.rows → KeepsWaits l new
-slot-keeps l new i slot sems events same = record {
+pub slot-keeps : (l new : Lists) (i : ℕ) (slot : Counted) → new.sems.items ≡ set l.sems.items i slot → new.events.items ≡ l.events.items → new.channels ≡ l.channels → slot.waiters.rows ≡ (sem_at l.sems.items i).waiters.rows → KeepsWaits l new
+slot-keeps l new i slot sems events channels same = record {
   slots = by_list;
   rows = by_rows;
   wants = λ j. ap (λ (xs : List Flagged). (event_at xs j).wants) events;
@@ -108,22 +110,24 @@ slot-keeps l new i slot sems events same = record {
   by_list : (list : WaitList) → slots_in new list ≡ slots_in l list
   by_list WaitList.Sem = ap length sems ∙ length-set l.sems.items i slot
   by_list WaitList.Event = ap length events
+  by_list (WaitList.Channel kind end) = ap (λ (c : PlainChannels). slots_of c kind) channels
 
   by_rows : (list : WaitList) (j : ℕ) → (waits_in new list j).rows ≡ (waits_in l list j).rows
   by_rows WaitList.Sem j = ap (λ (xs : List Counted). (sem_at xs j).waiters.rows) sems ∙ set-part (λ (c : Counted). c.waiters.rows) l.sems.items j i slot no_sem same
   by_rows WaitList.Event j = ap (λ (xs : List Flagged). (event_at xs j).waiters.rows) events
+  by_rows (WaitList.Channel kind end) j = ap (λ (c : PlainChannels). (waits_at c kind end j).rows) channels
 
 -- a take keeps the waiters
 pub taken-keeps : (l new : Lists) (i : ℕ) (result : Bool) (old slot : Counted) → old ≡ sem_at l.sems.items i → OnTrue result (slot ≡ record old { value = old.value - 1 }) → OnFalse result (slot ≡ old)
-    → new.sems.items ≡ set l.sems.items i slot → new.events.items ≡ l.events.items → KeepsWaits l new
-taken-keeps l new i result old slot at taken kept sems events = slot-keeps l new i slot sems events (by_test result refl ∙ ap (λ (c : Counted). c.waiters.rows) at) where
+    → new.sems.items ≡ set l.sems.items i slot → new.events.items ≡ l.events.items → new.channels ≡ l.channels → KeepsWaits l new
+taken-keeps l new i result old slot at taken kept sems events channels = slot-keeps l new i slot sems events channels (by_test result refl ∙ ap (λ (c : Counted). c.waiters.rows) at) where
   by_test : (r : Bool) → result ≡ r → slot.waiters.rows ≡ old.waiters.rows
   by_test true is = ap (λ (c : Counted). c.waiters.rows) (OnTrue_at is taken)
   by_test false is = ap (λ (c : Counted). c.waiters.rows) (OnFalse_at is kept)
 
 -- the tables, as contracts see them
-abbrev pub shown : List Thread → AllObjects → List Counted → List Flagged → Tabled
-shown threads a sems events = record { threads = threads; sems = map (plain_sem sems) a.sem.objects; events = map (plain_event events) a.event.objects; sem_limit = a.sem.limit; event_limit = a.event.limit }
+abbrev pub shown : List Thread → AllObjects → List Counted → List Flagged → PlainChannels → Tabled
+shown threads a sems events channels = record { threads = threads; sems = map (plain_sem sems) a.sem.objects; events = map (plain_event events) a.event.objects; mailboxes = map (plain_mailbox channels) a.mailbox.objects; queues = map (plain_queue channels) a.msgqueue.objects; sem_limit = a.sem.limit; event_limit = a.event.limit; mailbox_limit = a.mailbox.limit; queue_limit = a.msgqueue.limit }
 
 -- the wait list of a semaphore, by its name
 pub seen-line : (threads : List Thread) (l : Lists) (name : List ℕ) (i : ℕ) → IsTied threads l → number_of l.objects.sem.objects name ≡ Some i → line (waits_in l WaitList.Sem i) ≡ sem_line threads (plain_sem l.sems.items (record { no = i; name = name }))
@@ -133,7 +137,7 @@ seen-line threads l name i tied e =
 
 -- a release that wakes a thread
 module _ (threads woken : List Thread) (l new : Lists) (name : List ℕ) (i t : ℕ) (old slot : Counted) (tied : IsTied threads l) (e : number_of l.objects.sem.objects name ≡ Some i) (at : old ≡ sem_at l.sems.items i) (released : ReleasedBy old slot (Woke t))
-    (objects : new.objects ≡ l.objects) (sems : new.sems.items ≡ set l.sems.items i slot) (events : new.events.items ≡ l.events.items) (woken_is : woken ≡ with_row threads t (woken_row Code.Ok)) where
+    (objects : new.objects ≡ l.objects) (sems : new.sems.items ≡ set l.sems.items i slot) (events : new.events.items ≡ l.events.items) (channels : new.channels ≡ l.channels) (woken_is : woken ≡ with_row threads t (woken_row Code.Ok)) where
   there : i < length l.sems.items
   there = slot-there threads l name i tied e
 
@@ -144,7 +148,7 @@ module _ (threads woken : List Thread) (l new : Lists) (name : List ℕ) (i t : 
   slot_is = released.1 ∙ ap (λ (x : Counted). record x { waiters = without x.waiters t }) at
 
   relisted : IsRelisted l new (Some (WaitList.Sem, i)) (taken (Some t))
-  relisted = record { objects = objects; sems = sems ∙ ap (set l.sems.items i) slot_is; events = events }
+  relisted = record { objects = objects; sems = sems ∙ ap (set l.sems.items i) slot_is; events = events; channels = channels }
 
   pub woke-tied : IsTied woken new
   woke-tied = tied-taken threads woken l new WaitList.Sem i t (woken_row Code.Ok) (λ row. refl) tied there first relisted woken_is
@@ -156,7 +160,7 @@ woke-there threads l name i t old tied e at first =
 
 -- what it leaves
 pub woke-seen : (threads woken : List Thread) (l : Lists) (name : List ℕ) (i t : ℕ) (old slot : Counted) → IsTied threads l → number_of l.objects.sem.objects name ≡ Some i → old ≡ sem_at l.sems.items i → ReleasedBy old slot (Woke t) → woken ≡ with_row threads t (woken_row Code.Ok)
-    → Releases (shown threads l.objects l.sems.items l.events.items) (shown woken l.objects (set l.sems.items i slot) l.events.items) name (Some (Woke t))
+    → Releases (shown threads l.objects l.sems.items l.events.items l.channels) (shown woken l.objects (set l.sems.items i slot) l.events.items l.channels) name (Some (Woke t))
 woke-seen threads woken l name i t old slot tied e at released woken_is =
     let slot_is : slot ≡ record (sem_at l.sems.items i) { waiters = without (sem_at l.sems.items i).waiters t } = released.1 ∙ ap (λ (x : Counted). record x { waiters = without x.waiters t }) at in (
       plain_sem l.sems.items (record { no = i; name = name }),
@@ -166,7 +170,7 @@ woke-seen threads woken l name i t old slot tied e at released woken_is =
           ap head_of (sym (seen-line threads l name i tied e)) ∙ ap (λ (x : Counted). first_of x.waiters.order (waiters x.waiters)) (sym at) ∙ released.0,
           (
             woke-there threads l name i t old tied e at released.0,
-            λ k. record (shown threads l.objects l.sems.items l.events.items) {
+            λ k. record (shown threads l.objects l.sems.items l.events.items l.channels) {
               threads = woken_is k;
               sems = seen-same l.sems.items l.objects.sem.objects i slot (slot-there threads l name i tied e) (ap (λ (x : Counted). x.value) slot_is) (ap (λ (x : Counted). x.waiters.order) slot_is) k;
             },
@@ -191,16 +195,16 @@ module _ (threads : List Thread) (l : Lists) (name : List ℕ) (i : ℕ) (old sl
     by_answer Full released other = ap (λ (x : Counted). x.waiters) released.1.1
     by_answer Raised released other = ap (λ (x : Counted). x.waiters) released.1.1
 
-  pub kept-seen : Releases (shown threads l.objects l.sems.items l.events.items) (shown threads l.objects (set l.sems.items i slot) l.events.items) name (Some answer)
+  pub kept-seen : Releases (shown threads l.objects l.sems.items l.events.items l.channels) (shown threads l.objects (set l.sems.items i slot) l.events.items l.channels) name (Some answer)
   kept-seen = (plain_sem l.sems.items (record { no = i; name = name }), (seen-some l.sems.items l.objects.sem.objects name i e, by_answer answer released other)) where
-    by_answer : (answer : SemReleased) → ReleasedBy old slot answer → ((t : ℕ) → answer ≢ Woke t) → ReleasesSem (shown threads l.objects l.sems.items l.events.items) (shown threads l.objects (set l.sems.items i slot) l.events.items) (plain_sem l.sems.items (record { no = i; name = name })) answer
+    by_answer : (answer : SemReleased) → ReleasedBy old slot answer → ((t : ℕ) → answer ≢ Woke t) → ReleasesSem (shown threads l.objects l.sems.items l.events.items l.channels) (shown threads l.objects (set l.sems.items i slot) l.events.items l.channels) (plain_sem l.sems.items (record { no = i; name = name })) answer
     by_answer (Woke t) released other = absurd (other t refl)
     by_answer Full released other =
         let slot_is : slot ≡ sem_at l.sems.items i = released.1.1 ∙ at in (
           nobody released.0,
           (
             ap (λ (x : Counted). x.value) (sym at) ∙ released.1.0,
-            λ k. record (shown threads l.objects l.sems.items l.events.items) { sems = seen-same l.sems.items l.objects.sem.objects i slot within (ap (λ (x : Counted). x.value) slot_is) (ap (λ (x : Counted). x.waiters.order) slot_is) k },
+            λ k. record (shown threads l.objects l.sems.items l.events.items l.channels) { sems = seen-same l.sems.items l.objects.sem.objects i slot within (ap (λ (x : Counted). x.value) slot_is) (ap (λ (x : Counted). x.waiters.order) slot_is) k },
           ),
         )
     by_answer Raised released other =
@@ -208,7 +212,7 @@ module _ (threads : List Thread) (l : Lists) (name : List ℕ) (i : ℕ) (old sl
           nobody released.0,
           (
             λ full. released.1.0 (ap (λ (x : Counted). x.value) at ∙ full),
-            λ k. record (shown threads l.objects l.sems.items l.events.items) { sems = (seen-put l.objects.sem l.sems.items name i slot (tied.lists.sound WaitList.Sem) within e ∙ ap (λ (x : Counted). put_sem (map (plain_sem l.sems.items) l.objects.sem.objects) (seen_as name x)) slot_is) k },
+            λ k. record (shown threads l.objects l.sems.items l.events.items l.channels) { sems = (seen-put l.objects.sem l.sems.items name i slot (tied.lists.sound WaitList.Sem) within e ∙ ap (λ (x : Counted). put_sem (map (plain_sem l.sems.items) l.objects.sem.objects) (seen_as name x)) slot_is) k },
           ),
         )
 
@@ -224,35 +228,40 @@ has_sem _ = false
 sem-made : (a : AllObjects) (name : List ℕ) (i : ℕ) → IsMade a (made_sem a name i) has_sem name i
 sem-made a name i WaitList.Sem = refl
 sem-made a name i WaitList.Event = refl
+sem-made a name i (WaitList.Channel ChannelKind.Mailbox end) = refl
+sem-made a name i (WaitList.Channel ChannelKind.MsgQueue end) = refl
 
 -- its objects alone are others
-sem-sound : (a b : AllObjects) → ((list : WaitList) → IsSound (objects_in a list)) → IsSound b.sem → b.event ≡ a.event → (list : WaitList) → IsSound (objects_in b list)
-sem-sound a b sound own other WaitList.Sem = own
-sem-sound a b sound own other WaitList.Event = subst IsSound (sym other) (sound WaitList.Event)
+sem-sound : (a b : AllObjects) → ((list : WaitList) → IsSound (objects_in a list)) → IsSound b.sem → b.event ≡ a.event → b.mailbox ≡ a.mailbox → b.msgqueue ≡ a.msgqueue → (list : WaitList) → IsSound (objects_in b list)
+sem-sound a b sound own event mailbox queue WaitList.Sem = own
+sem-sound a b sound own event mailbox queue WaitList.Event = subst IsSound (sym event) (sound WaitList.Event)
+sem-sound a b sound own event mailbox queue (WaitList.Channel ChannelKind.Mailbox end) = subst IsSound (sym mailbox) (sound (WaitList.Channel ChannelKind.Mailbox end))
+sem-sound a b sound own event mailbox queue (WaitList.Channel ChannelKind.MsgQueue end) = subst IsSound (sym queue) (sound (WaitList.Channel ChannelKind.MsgQueue end))
 
 -- the tables with one semaphore more, whose slot nobody waited in
 pub tied-made : (threads : List Thread) (l new : Lists) (name : List ℕ) (i : ℕ) (slot : Counted) → IsTied threads l → new.objects ≡ made_sem l.objects name i → number_of l.objects.sem.objects name ≡ None → IsSound new.objects.sem
-    → new.sems.items ≡ set l.sems.items i slot → new.events.items ≡ l.events.items → slot.waiters.rows ≡ (sem_at l.sems.items i).waiters.rows → IsTied threads new
-tied-made threads l new name i slot tied is none sound sems events rows =
-    lists-made threads l new has_sem name i tied (λ list. ap (λ b. objects_in b list) is ∙ sem-made l.objects name i list) by_list (sem-sound l.objects new.objects tied.lists.sound sound (ap (λ b. b.event) is)) (slot-keeps l new i slot sems events rows)
+    → new.sems.items ≡ set l.sems.items i slot → new.events.items ≡ l.events.items → new.channels ≡ l.channels → slot.waiters.rows ≡ (sem_at l.sems.items i).waiters.rows → IsTied threads new
+tied-made threads l new name i slot tied is none sound sems events channels rows =
+    lists-made threads l new has_sem name i tied (λ list. ap (λ b. objects_in b list) is ∙ sem-made l.objects name i list) by_list (sem-sound l.objects new.objects tied.lists.sound sound (ap (λ b. b.event) is) (ap (λ b. b.mailbox) is) (ap (λ b. b.msgqueue) is)) (slot-keeps l new i slot sems events channels rows)
   where
     by_list : (list : WaitList) → has_sem list ≡ true → number_of (objects_in l.objects list).objects name ≡ None
     by_list WaitList.Sem own = none
     by_list WaitList.Event own = absurd (false≢true own)
+    by_list (WaitList.Channel kind end) own = absurd (false≢true own)
 
 -- the list of a free slot is empty
 pub free-slot : (threads : List Thread) (l : Lists) (i : ℕ) (old : Counted) → IsTied threads l → i < l.objects.sem.limit → has_number l.objects.sem.objects i ≡ false → old ≡ sem_at l.sems.items i → length (line old.waiters) ≡ 0
 free-slot threads l i old tied there free at = rw at (free-line takes_sem l.objects.sem.objects i threads (waits_in l WaitList.Sem i) (tied.lists.rows WaitList.Sem i there) free)
 
 -- a creation
-pub made-seen : (threads : List Thread) (a made : AllObjects) (sems : List Counted) (events : List Flagged) (name : List ℕ) (value : ℕ) (order : WaitOrder) (i : ℕ) (rows : List (Option WaitRow)) → i < length sems → number_of a.sem.objects name ≡ None → length a.sem.objects < a.sem.limit
+pub made-seen : (threads : List Thread) (a made : AllObjects) (sems : List Counted) (events : List Flagged) (channels : PlainChannels) (name : List ℕ) (value : ℕ) (order : WaitOrder) (i : ℕ) (rows : List (Option WaitRow)) → i < length sems → number_of a.sem.objects name ≡ None → length a.sem.objects < a.sem.limit
     → has_number a.sem.objects i ≡ false → made ≡ made_sem a name i
-    → CreatesSem (shown threads a sems events) (shown threads made (set sems i (record { value = value; waiters = record { order = order; rows = rows } })) events) (record { name = name; value = value; order = order }) (Ok tt)
-made-seen threads a made sems events name value order i rows there none room free is = (
+    → CreatesSem (shown threads a sems events channels) (shown threads made (set sems i (record { value = value; waiters = record { order = order; rows = rows } })) events channels) (record { name = name; value = value; order = order }) (Ok tt)
+made-seen threads a made sems events channels name value order i rows there none room free is = (
   seen-none sems a.sem.objects name none,
   (
     omega (arith, room, length-map a.sem.objects (plain_sem sems)),
-    rw is (λ k. record (shown threads a sems events) { sems = seen k }),
+    rw is (λ k. record (shown threads a sems events channels) { sems = seen k }),
   ),
 )
   where
@@ -265,9 +274,9 @@ made-seen threads a made sems events name value order i rows there none room fre
         ∙ ap (λ l. seen_as name new ∷ l) (free-same (plain_sem sems) (plain_sem (set sems i new)) a.sem.objects i free (λ o other. ap (seen_as o.name) (get_or-set_other sems i o.no new _ other)))
 
 -- no creation
-pub refused-seen : (threads : List Thread) (a made : AllObjects) (sems : List Counted) (events : List Flagged) (sem : Sem) (fault : Make) → MakeCause a.sem sem.name (Err fault) → made ≡ a → CreatesSem (shown threads a sems events) (shown threads made sems events) sem (Err fault)
-refused-seen threads a made sems events sem (Taken number) cause same = (ap is_some (seen-some sems a.sem.objects sem.name number cause), ap (λ b. shown threads b sems events) same)
-refused-seen threads a made sems events sem (ClassFull limit) cause same = (seen-none sems a.sem.objects sem.name cause.0, (length-map a.sem.objects (plain_sem sems) ∙ cause.1.0, ap (λ b. shown threads b sems events) same))
+pub refused-seen : (threads : List Thread) (a made : AllObjects) (sems : List Counted) (events : List Flagged) (channels : PlainChannels) (sem : Sem) (fault : Make) → MakeCause a.sem sem.name (Err fault) → made ≡ a → CreatesSem (shown threads a sems events channels) (shown threads made sems events channels) sem (Err fault)
+refused-seen threads a made sems events channels sem (Taken number) cause same = (ap is_some (seen-some sems a.sem.objects sem.name number cause), ap (λ b. shown threads b sems events channels) same)
+refused-seen threads a made sems events channels sem (ClassFull limit) cause same = (seen-none sems a.sem.objects sem.name cause.0, (length-map a.sem.objects (plain_sem sems) ∙ cause.1.0, ap (λ b. shown threads b sems events channels) same))
 
 pub err-is : (r : Result Unit Make) (fault : Make) → IsErr r × IsErrAnd r (λ e. e ≡ fault) → r ≡ Err fault
 err-is (Ok done) fault e = absurd e.1
@@ -280,28 +289,34 @@ removed_sem a i = record a { sem = removed a.sem i }
 sem-dropped : (a : AllObjects) (i : ℕ) → IsDropped a (removed_sem a i) has_sem i
 sem-dropped a i WaitList.Sem = refl
 sem-dropped a i WaitList.Event = refl
+sem-dropped a i (WaitList.Channel ChannelKind.Mailbox end) = refl
+sem-dropped a i (WaitList.Channel ChannelKind.MsgQueue end) = refl
 
 -- a semaphore that nobody waits for is gone
 pub tied-removed : (threads : List Thread) (l new : Lists) (name : List ℕ) (i : ℕ) → IsTied threads l → number_of l.objects.sem.objects name ≡ Some i → line (waits_in l WaitList.Sem i) ≡ [] → new.objects ≡ removed_sem l.objects i → IsSound new.objects.sem
-    → new.sems.items ≡ l.sems.items → new.events.items ≡ l.events.items → IsTied threads new
-tied-removed threads l new name i tied e empty is sound sems events =
-    lists-dropped threads l new has_sem name i tied (λ list. ap (λ b. objects_in b list) is ∙ sem-dropped l.objects i list) by_name by_line (sem-sound l.objects new.objects tied.lists.sound sound (ap (λ b. b.event) is)) (record { slots = by_slots; rows = by_rows; wants = λ j. ap (λ (xs : List Flagged). (event_at xs j).wants) events })
+    → new.sems.items ≡ l.sems.items → new.events.items ≡ l.events.items → new.channels ≡ l.channels → IsTied threads new
+tied-removed threads l new name i tied e empty is sound sems events channels =
+    lists-dropped threads l new has_sem name i tied (λ list. ap (λ b. objects_in b list) is ∙ sem-dropped l.objects i list) by_name by_line (sem-sound l.objects new.objects tied.lists.sound sound (ap (λ b. b.event) is) (ap (λ b. b.mailbox) is) (ap (λ b. b.msgqueue) is)) (record { slots = by_slots; rows = by_rows; wants = λ j. ap (λ (xs : List Flagged). (event_at xs j).wants) events })
   where
     by_name : (list : WaitList) → has_sem list ≡ true → number_of (objects_in l.objects list).objects name ≡ Some i
     by_name WaitList.Sem own = e
     by_name WaitList.Event own = absurd (false≢true own)
+    by_name (WaitList.Channel kind end) own = absurd (false≢true own)
 
     by_line : (list : WaitList) → has_sem list ≡ true → line (waits_in l list i) ≡ []
     by_line WaitList.Sem own = empty
     by_line WaitList.Event own = absurd (false≢true own)
+    by_line (WaitList.Channel kind end) own = absurd (false≢true own)
 
     by_slots : (list : WaitList) → slots_in new list ≡ slots_in l list
     by_slots WaitList.Sem = ap length sems
     by_slots WaitList.Event = ap length events
+    by_slots (WaitList.Channel kind end) = ap (λ (c : PlainChannels). slots_of c kind) channels
 
     by_rows : (list : WaitList) (j : ℕ) → (waits_in new list j).rows ≡ (waits_in l list j).rows
     by_rows WaitList.Sem j = ap (λ (xs : List Counted). (sem_at xs j).waiters.rows) sems
     by_rows WaitList.Event j = ap (λ (xs : List Flagged). (event_at xs j).waiters.rows) events
+    by_rows (WaitList.Channel kind end) j = ap (λ (c : PlainChannels). (waits_at c kind end j).rows) channels
 
 -- whom a deletion wakes
 pub woken-seen : (threads : List Thread) (l : Lists) (name : List ℕ) (i : ℕ) (woken : List ℕ) (sem : Sem) → IsTied threads l → number_of l.objects.sem.objects name ≡ Some i → woken ≡ line (waits_in l WaitList.Sem i) → found_sem (map (plain_sem l.sems.items) l.objects.sem.objects) name ≡ Some sem → woken ≡ sem_line threads sem
@@ -309,11 +324,13 @@ woken-seen threads l name i woken sem tied e all is = all ∙ seen-line threads 
 
 -- what it leaves
 pub removed-seen : (threads now : List Thread) (l left : Lists) (gone : AllObjects) (name : List ℕ) (i : ℕ) (woken : List ℕ) → IsSound l.objects.sem → number_of l.objects.sem.objects name ≡ Some i → now ≡ all_woken Code.Error threads woken → IsShownAs l left → gone ≡ removed_sem left.objects i
-    → shown now gone left.sems.items left.events.items ≡ without_sem (shown threads l.objects l.sems.items l.events.items) name woken
+    → shown now gone left.sems.items left.events.items left.channels ≡ without_sem (shown threads l.objects l.sems.items l.events.items l.channels) name woken
 removed-seen threads now l left gone name i woken sound e rows same is =
-    ap (λ b. shown now b left.sems.items left.events.items) (is ∙ ap (λ b. removed_sem b i) same.objects)
-    ∙ (λ k. record (shown threads l.objects l.sems.items l.events.items) {
+    ap (λ b. shown now b left.sems.items left.events.items left.channels) (is ∙ ap (λ b. removed_sem b i) same.objects)
+    ∙ (λ k. record (shown threads l.objects l.sems.items l.events.items l.channels) {
       threads = rows k;
       sems = (found-removed (plain_sem left.sems.items) (λ (x : Sem). x.name) l.objects.sem name i sound e (λ o. refl) ∙ ap (filter (λ (x : Sem). not (bytes_eq x.name name))) same.sems) k;
       events = same.events k;
+      mailboxes = same.mailboxes k;
+      queues = same.queues k;
     })

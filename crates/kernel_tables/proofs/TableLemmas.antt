@@ -7,7 +7,7 @@ use Rattle.std.proofs.lemmas.List.{length-map, length-set}
 use Rattle.std.proofs.lemmas.Bool.{false≢true}
 use Rattle.std.proofs.lemmas.Option.{same_Some}
 use Rattle.rt_plain.specs.declared.stmt.Call.{Call}
-use Rattle.rt_plain.specs.kernel.State.{Thread, Stage, Active, Waiting, InCall, Sem, EventObj, no_thread}
+use Rattle.rt_plain.specs.kernel.State.{Thread, Stage, Active, Waiting, InCall, Sem, EventObj, Mailbox, MsgQueue, no_thread}
 use Rattle.rt_plain.specs.kernel.Waiting.{number_in}
 use Rattle.rt_plain.specs.kernel.Ticks.{thread_after_slice}
 use Rattle.rt_plain.specs.kernel.EventCalls.{want_of, want_of_call}
@@ -21,7 +21,7 @@ use Rattle.ipc_counts.specs.Sent.{want_at}
 use Rattle.ipc_counts.specs.declared.want.Want.{Want}
 use Rattle.kernel_tables.specs.declared.lists.Lists.{Lists}
 use Rattle.kernel_tables.specs.declared.wait_list.WaitList.{WaitList}
-use Rattle.kernel_tables.specs.Listed.{wait_row, row_with, waits_in, wants_in, waits_with, left, moved, joined, plain_sem, plain_event, want_in, IsRelisted, IsJoined, IsShownAs, event_in, Holds, MayJoin}
+use Rattle.kernel_tables.specs.Listed.{wait_row, row_with, waits_in, wants_in, waits_with, left, moved, joined, plain_sem, plain_event, plain_mailbox, plain_queue, want_in, IsRelisted, IsJoined, IsShownAs, event_in, Holds, MayJoin}
 use Rattle.kernel_tables.specs.Tabled.{is_unlisted, knows}
 use Rattle.kernel_tables.specs.Threads.{row_at}
 use Rattle.kernel_tables.specs.Tied.{AreTied, AreWanted, IsTied, tabled}
@@ -88,7 +88,7 @@ holds-tied threads l t tied there = if-some (list_at l.objects stage) _ (λ p is
 pub tied-left : (threads : List Thread) (l new : Lists) (t : ℕ) (row : Thread) → IsTied threads l → t < length threads → IsRelisted l new (list_at l.objects (row_at threads t).stage) (left t) → is_unlisted row.stage ≡ true → IsTied (slice_set threads t row) new
 tied-left threads l new t row tied there is free = record {
   slots = λ list. relisted-slots l new at (left t) is list ∙ tied.slots list ∙ ap (λ (a : AllObjects). (objects_in a list).limit) (sym is.objects);
-  lists = subst (λ (a : AllObjects). AreTied (slice_set threads t row) a (waits_in new)) (sym is.objects) (tied-same (slice_set threads t row) a (waits_with at (left t) (waits_in l)) (waits_in new) (λ list i within. ap (λ (w : Waits). w.rows) (relisted-waits l new at (left t) is (stage-within threads l (row_at threads t).stage tied) list i)) lists);
+  lists = subst (λ (a : AllObjects). AreTied (slice_set threads t row) a (waits_in new)) (sym is.objects) (tied-same (slice_set threads t row) a (waits_with at (left t) (waits_in l)) (waits_in new) (λ list i within. ap (λ (w : Waits). w.rows) (relisted-waits l new at (left t) (λ w. refl) is (stage-within threads l (row_at threads t).stage tied) list i)) lists);
   wants = subst (λ (a : AllObjects). AreWanted (slice_set threads t row) a (wants_in new)) (sym is.objects) (wanted-changed threads a (wants_in l) (wants_in new) t row tied.wants there (λ i u apart. ap (λ (ws : List Want). slice_get ws u) (relisted-wants l new at (left t) is i)) (λ i within some. absurd (false≢true (ap is_some (sym (none WaitList.Event i)) ∙ some))));
 } where
   a : AllObjects
@@ -117,7 +117,7 @@ some-row one other (Some number) = refl
 pub tied-moved : (threads : List Thread) (l new : Lists) (t prio : ℕ) → IsTied threads l → t < length threads → IsRelisted l new (list_at l.objects (row_at threads t).stage) (moved t prio) → IsTied (slice_set threads t (record (row_at threads t) { base = prio })) new
 tied-moved threads l new t prio tied there is = record {
   slots = λ list. relisted-slots l new at (moved t prio) is list ∙ tied.slots list ∙ ap (λ (a : AllObjects). (objects_in a list).limit) (sym is.objects);
-  lists = subst (λ (a : AllObjects). AreTied (slice_set threads t row) a (waits_in new)) (sym is.objects) (tied-same (slice_set threads t row) a (waits_with at (moved t prio) (waits_in l)) (waits_in new) (λ list i within. ap (λ (w : Waits). w.rows) (relisted-waits l new at (moved t prio) is (stage-within threads l old.stage tied) list i)) lists);
+  lists = subst (λ (a : AllObjects). AreTied (slice_set threads t row) a (waits_in new)) (sym is.objects) (tied-same (slice_set threads t row) a (waits_with at (moved t prio) (waits_in l)) (waits_in new) (λ list i within. ap (λ (w : Waits). w.rows) (relisted-waits l new at (moved t prio) (λ w. refl) is (stage-within threads l old.stage tied) list i)) lists);
   wants = subst (λ (a : AllObjects). AreWanted (slice_set threads t row) a (wants_in new)) (sym is.objects) (wanted-changed threads a (wants_in l) (wants_in new) t row tied.wants there (λ i u apart. ap (λ (ws : List Want). slice_get ws u) (relisted-wants l new at (moved t prio) is i))
       (λ i within some. ap (λ (ws : List Want). want_at (slice_get ws t)) (relisted-wants l new at (moved t prio) is i) ∙ tied.wants i t within there (some-row old.base prio (number_in (calls_in a WaitList.Event i) old.stage) ∙ some)));
 } where
@@ -199,13 +199,17 @@ there-shown {A = A} plain name_of named (o ∷ os) name = ap (λ (n : List ℕ).
 pub knows-is : (threads : List Thread) (l : Lists) (call : Call) → knows (tabled threads l) call ≡ is_known_call l.objects call
 knows-is threads l (Call.SemTake name timeout) = there-shown (plain_sem l.sems.items) (λ (x : Sem). x.name) (λ o. refl) l.objects.sem.objects name
 knows-is threads l (Call.EventRecv name mask all clear timeout) = there-shown (plain_event l.events.items) (λ (x : EventObj). x.name) (λ o. refl) l.objects.event.objects name
+knows-is threads l (Call.MbSend name word timeout) = there-shown (plain_mailbox l.channels) (λ (x : Mailbox). x.name) (λ o. refl) l.objects.mailbox.objects name
+knows-is threads l (Call.MbRecv name timeout) = there-shown (plain_mailbox l.channels) (λ (x : Mailbox). x.name) (λ o. refl) l.objects.mailbox.objects name
+knows-is threads l (Call.MqSend name timeout message) = there-shown (plain_queue l.channels) (λ (x : MsgQueue). x.name) (λ o. refl) l.objects.msgqueue.objects name
+knows-is threads l (Call.MqRecv name timeout) = there-shown (plain_queue l.channels) (λ (x : MsgQueue). x.name) (λ o. refl) l.objects.msgqueue.objects name
 knows-is threads l _ = refl
 
 -- the tables whose objects show the same
 pub tabled-same : (threads rows : List Thread) (l new : Lists) → rows ≡ threads → IsShownAs l new → tabled rows new ≡ tabled threads l
 tabled-same threads rows l new same shown =
-    ap (λ (a : AllObjects). record { threads = rows; sems = map (plain_sem new.sems.items) a.sem.objects; events = map (plain_event new.events.items) a.event.objects; sem_limit = a.sem.limit; event_limit = a.event.limit }) shown.objects
-    ∙ (λ k. record { threads = same k; sems = shown.sems k; events = shown.events k; sem_limit = l.objects.sem.limit; event_limit = l.objects.event.limit })
+    ap (λ (a : AllObjects). record { threads = rows; sems = map (plain_sem new.sems.items) a.sem.objects; events = map (plain_event new.events.items) a.event.objects; mailboxes = map (plain_mailbox new.channels) a.mailbox.objects; queues = map (plain_queue new.channels) a.msgqueue.objects; sem_limit = a.sem.limit; event_limit = a.event.limit; mailbox_limit = a.mailbox.limit; queue_limit = a.msgqueue.limit }) shown.objects
+    ∙ (λ k. record { threads = same k; sems = shown.sems k; events = shown.events k; mailboxes = shown.mailboxes k; queues = shown.queues k; sem_limit = l.objects.sem.limit; event_limit = l.objects.event.limit; mailbox_limit = l.objects.mailbox.limit; queue_limit = l.objects.msgqueue.limit })
 
 -- a thread that has left its wait may join a list
 may-join : (threads : List Thread) (l : Lists) (t : ℕ) (call : Call) → IsTied threads l → t < length threads → is_unlisted (row_at threads t).stage ≡ true → MayJoin l (number_at l.objects (list_of call)) t

@@ -13,6 +13,8 @@ use Rattle.rt_plain.specs.kernel.Waiting.{number_in}
 use Rattle.object_box.specs.declared.object.Object.{Object}
 use Rattle.object_box.specs.Classes.{AllObjects}
 use Rattle.object_box.specs.Objects.{number_of, IsSound}
+use Rattle.ipc_queues.specs.declared.channels.ChannelKind.{ChannelKind}
+use Rattle.ipc_queues.specs.declared.ends.End.{End}
 use Rattle.kernel_tables.specs.declared.wait_list.WaitList.{WaitList}
 use Rattle.kernel_tables.specs.Listed.{wait_row, row_with}
 use Rattle.kernel_tables.specs.Tabled.{is_unlisted}
@@ -21,11 +23,19 @@ use Rattle.kernel_tables.specs.WaitLists.{waits_for, list_of, index, is_same, is
 -- a list has the number of no other
 abbrev of_index : ℕ → WaitList
 of_index zero = WaitList.Sem
-of_index (suc n) = WaitList.Event
+of_index (suc zero) = WaitList.Event
+of_index (suc (suc zero)) = WaitList.Channel ChannelKind.Mailbox End.Receivers
+of_index (suc (suc (suc zero))) = WaitList.Channel ChannelKind.Mailbox End.Senders
+of_index (suc (suc (suc (suc zero)))) = WaitList.Channel ChannelKind.MsgQueue End.Receivers
+of_index (suc (suc (suc (suc (suc n))))) = WaitList.Channel ChannelKind.MsgQueue End.Senders
 
 of_index-is : (list : WaitList) → of_index (index list) ≡ list
 of_index-is WaitList.Sem = refl
 of_index-is WaitList.Event = refl
+of_index-is (WaitList.Channel ChannelKind.Mailbox End.Receivers) = refl
+of_index-is (WaitList.Channel ChannelKind.Mailbox End.Senders) = refl
+of_index-is (WaitList.Channel ChannelKind.MsgQueue End.Receivers) = refl
+of_index-is (WaitList.Channel ChannelKind.MsgQueue End.Senders) = refl
 
 pub same-is : (list other : WaitList) → is_same list other ≡ true → list ≡ other
 same-is list other e = sym (of_index-is list) ∙ ap of_index (eqb-true (index list) (index other) e) ∙ of_index-is other
@@ -38,10 +48,46 @@ is_on list name (Some (other, called)) = is_same list other && bytes_eq called n
 pub waits-is : (list : WaitList) (name : List ℕ) (call : Call) → waits_for list name call ≡ is_on list name (list_of call)
 waits-is WaitList.Sem name (Call.SemTake called timeout) = refl
 waits-is WaitList.Sem name (Call.EventRecv called mask all clear timeout) = refl
+waits-is WaitList.Sem name (Call.MbSend called word timeout) = refl
+waits-is WaitList.Sem name (Call.MbRecv called timeout) = refl
+waits-is WaitList.Sem name (Call.MqSend called timeout message) = refl
+waits-is WaitList.Sem name (Call.MqRecv called timeout) = refl
 waits-is WaitList.Sem name _ = refl
 waits-is WaitList.Event name (Call.SemTake called timeout) = refl
 waits-is WaitList.Event name (Call.EventRecv called mask all clear timeout) = refl
+waits-is WaitList.Event name (Call.MbSend called word timeout) = refl
+waits-is WaitList.Event name (Call.MbRecv called timeout) = refl
+waits-is WaitList.Event name (Call.MqSend called timeout message) = refl
+waits-is WaitList.Event name (Call.MqRecv called timeout) = refl
 waits-is WaitList.Event name _ = refl
+waits-is (WaitList.Channel ChannelKind.Mailbox End.Receivers) name (Call.SemTake called timeout) = refl
+waits-is (WaitList.Channel ChannelKind.Mailbox End.Receivers) name (Call.EventRecv called mask all clear timeout) = refl
+waits-is (WaitList.Channel ChannelKind.Mailbox End.Receivers) name (Call.MbSend called word timeout) = refl
+waits-is (WaitList.Channel ChannelKind.Mailbox End.Receivers) name (Call.MbRecv called timeout) = refl
+waits-is (WaitList.Channel ChannelKind.Mailbox End.Receivers) name (Call.MqSend called timeout message) = refl
+waits-is (WaitList.Channel ChannelKind.Mailbox End.Receivers) name (Call.MqRecv called timeout) = refl
+waits-is (WaitList.Channel ChannelKind.Mailbox End.Receivers) name _ = refl
+waits-is (WaitList.Channel ChannelKind.Mailbox End.Senders) name (Call.SemTake called timeout) = refl
+waits-is (WaitList.Channel ChannelKind.Mailbox End.Senders) name (Call.EventRecv called mask all clear timeout) = refl
+waits-is (WaitList.Channel ChannelKind.Mailbox End.Senders) name (Call.MbSend called word timeout) = refl
+waits-is (WaitList.Channel ChannelKind.Mailbox End.Senders) name (Call.MbRecv called timeout) = refl
+waits-is (WaitList.Channel ChannelKind.Mailbox End.Senders) name (Call.MqSend called timeout message) = refl
+waits-is (WaitList.Channel ChannelKind.Mailbox End.Senders) name (Call.MqRecv called timeout) = refl
+waits-is (WaitList.Channel ChannelKind.Mailbox End.Senders) name _ = refl
+waits-is (WaitList.Channel ChannelKind.MsgQueue End.Receivers) name (Call.SemTake called timeout) = refl
+waits-is (WaitList.Channel ChannelKind.MsgQueue End.Receivers) name (Call.EventRecv called mask all clear timeout) = refl
+waits-is (WaitList.Channel ChannelKind.MsgQueue End.Receivers) name (Call.MbSend called word timeout) = refl
+waits-is (WaitList.Channel ChannelKind.MsgQueue End.Receivers) name (Call.MbRecv called timeout) = refl
+waits-is (WaitList.Channel ChannelKind.MsgQueue End.Receivers) name (Call.MqSend called timeout message) = refl
+waits-is (WaitList.Channel ChannelKind.MsgQueue End.Receivers) name (Call.MqRecv called timeout) = refl
+waits-is (WaitList.Channel ChannelKind.MsgQueue End.Receivers) name _ = refl
+waits-is (WaitList.Channel ChannelKind.MsgQueue End.Senders) name (Call.SemTake called timeout) = refl
+waits-is (WaitList.Channel ChannelKind.MsgQueue End.Senders) name (Call.EventRecv called mask all clear timeout) = refl
+waits-is (WaitList.Channel ChannelKind.MsgQueue End.Senders) name (Call.MbSend called word timeout) = refl
+waits-is (WaitList.Channel ChannelKind.MsgQueue End.Senders) name (Call.MbRecv called timeout) = refl
+waits-is (WaitList.Channel ChannelKind.MsgQueue End.Senders) name (Call.MqSend called timeout message) = refl
+waits-is (WaitList.Channel ChannelKind.MsgQueue End.Senders) name (Call.MqRecv called timeout) = refl
+waits-is (WaitList.Channel ChannelKind.MsgQueue End.Senders) name _ = refl
 
 -- the objects behind the first one
 pairs-tail : {A : Type 0} (R : A → A → Type 0) (x : A) (xs : List A) → AllPairs R (x ∷ xs) → AllPairs R xs

@@ -213,7 +213,7 @@ module _ (threads woken : List Thread) (l new : Lists) (list : WaitList) (i t : 
   wakes-one = subst (λ all. Wakes threads all (t ∷ [])) (sym woken_is) (wakes (λ (u : ℕ). u) (λ u. change) (λ u row. wakes_so row) threads (t ∷ []))
 
   taken-rows : (other : WaitList) (j : ℕ) → (waits_in new other j).rows ≡ (if is_at other j (Some (list, i)) then cleared (waits_in l other j).rows (t ∷ []) else (waits_in l other j).rows)
-  taken-rows other j = ap (λ (w : Waits). w.rows) (relisted-waits l new (Some (list, i)) (taken (Some t)) is within other j) ∙ by_test (is_at other j (Some (list, i)))
+  taken-rows other j = ap (λ (w : Waits). w.rows) (relisted-waits l new (Some (list, i)) (taken (Some t)) (λ w. refl) is within other j) ∙ by_test (is_at other j (Some (list, i)))
     where
       by_test : (c : Bool) → (if c then taken (Some t) (waits_in l other j) else waits_in l other j).rows ≡ (if c then cleared (waits_in l other j).rows (t ∷ []) else (waits_in l other j).rows)
       by_test true = refl
@@ -233,6 +233,13 @@ pub record IsWaking (code : Code) (threads : List Thread) (l : Lists) (list : Wa
   pub parts : line (waits_in l list i) ≡ woken ++ line (waits_in left list i)
   pub rows : now ≡ all_woken code threads woken
   pub shown : IsShownAs l left
+  pub others : (other : WaitList) (j : ℕ) → is_at other j (Some (list, i)) ≡ false → waits_in left other j ≡ waits_in l other j
+
+-- they come behind some who woke before
+pub record IsWakingOn (code : Code) (threads : List Thread) (l : Lists) (list : WaitList) (i : ℕ) (before : List ℕ) (now : List Thread) (left : Lists) (woken : List ℕ) : Type 0 where
+  pub done : List ℕ
+  pub is : woken ≡ before ++ done
+  pub waking : IsWaking code threads l list i now left done
 
 pub waking-start : (code : Code) (threads : List Thread) (l : Lists) (list : WaitList) (i : ℕ) (woken : List ℕ) → IsTied threads l → woken ≡ [] → IsWaking code threads l list i threads l woken
 waking-start code threads l list i woken tied none = record {
@@ -240,12 +247,13 @@ waking-start code threads l list i woken tied none = record {
   slots = refl;
   parts = ap (λ ts. ts ++ line (waits_in l list i)) (sym none);
   rows = ap (all_woken code threads) (sym none);
-  shown = record { objects = refl; sems = refl; events = refl };
+  shown = record { objects = refl; sems = refl; events = refl; mailboxes = refl; queues = refl };
+  others = λ other j off. refl;
 }
 
--- no more wake than there are threads
-pub waking-few : (code : Code) (threads : List Thread) (l : Lists) (list : WaitList) (i : ℕ) (now : List Thread) (left : Lists) (woken : List ℕ) → IsTied threads l → i < slots_in l list → IsWaking code threads l list i now left woken → length woken ≤ length threads
-waking-few code threads l list i now left woken tied within s =
+-- those who woke and those who still wait are no more than there are threads
+pub waking-room : (code : Code) (threads : List Thread) (l : Lists) (list : WaitList) (i : ℕ) (now : List Thread) (left : Lists) (woken : List ℕ) → IsTied threads l → i < slots_in l list → IsWaking code threads l list i now left woken → length woken + length (line (waits_in left list i)) ≤ length threads
+waking-room code threads l list i now left woken tied within s =
     let below : i < (objects_in l.objects list).limit = subst (λ n. i < n) (tied.slots list) within in
     omega (
       arith,
@@ -255,17 +263,20 @@ waking-few code threads l list i now left woken tied within s =
       line-few threads (waits_in l list i).order (calls_in l.objects list i),
     )
 
+pub waking-few : (code : Code) (threads : List Thread) (l : Lists) (list : WaitList) (i : ℕ) (now : List Thread) (left : Lists) (woken : List ℕ) → IsTied threads l → i < slots_in l list → IsWaking code threads l list i now left woken → length woken ≤ length threads
+waking-few code threads l list i now left woken tied within s = omega (arith, waking-room code threads l list i now left woken tied within s)
+
 module _ (code : Code) (threads : List Thread) (l : Lists) (list : WaitList) (i : ℕ) (now : List Thread) (left : Lists) (woken : List ℕ) (within : i < slots_in l list) (s : IsWaking code threads l list i now left woken) (new : Lists) where
   -- the slot is still there
   pub waking-within : i < slots_in left list
   waking-within = subst (λ n. i < n) (sym s.slots) within
 
-  list-after : (o : Option ℕ) → IsRelisted left new (Some (list, i)) (taken o) → waits_in new list i ≡ taken o (waits_in left list i)
-  list-after o is = relisted-waits left new (Some (list, i)) (taken o) is waking-within list i ∙ ap (λ c. if c then taken o (waits_in left list i) else waits_in left list i) (at-itself list i)
-
   orders : (o : Option ℕ) (w : Waits) → (taken o w).order ≡ w.order
   orders None w = refl
   orders (Some t) w = refl
+
+  list-after : (o : Option ℕ) → IsRelisted left new (Some (list, i)) (taken o) → waits_in new list i ≡ taken o (waits_in left list i)
+  list-after o is = relisted-waits left new (Some (list, i)) (taken o) (orders o) is waking-within list i ∙ ap (λ c. if c then taken o (waits_in left list i) else waits_in left list i) (at-itself list i)
 
   -- one more wakes
   pub waking-more : (t : ℕ) (rows : List Thread) (more : List ℕ) → head_of (line (waits_in left list i)) ≡ Some t → IsRelisted left new (Some (list, i)) (taken (Some t)) → rows ≡ with_row now t (woken_row code) → more ≡ woken ++ t ∷ [] → IsWaking code threads l list i rows new more
@@ -283,6 +294,7 @@ module _ (code : Code) (threads : List Thread) (l : Lists) (list : WaitList) (i 
             ∙ ap (λ ts. more ++ ts) (sym shorter);
         rows = rows_is ∙ ap (λ all. with_row all t (woken_row code)) s.rows ∙ sym (fold-append (λ all u. with_row all u (woken_row code)) threads woken (t ∷ [])) ∙ ap (all_woken code threads) (sym more_is);
         shown = shown-again l left new s.shown (relisted-shown left new (Some (list, i)) (taken (Some t)) is (orders (Some t)));
+        others = λ other j off. relisted-waits left new (Some (list, i)) (taken (Some t)) (orders (Some t)) is waking-within other j ∙ ap (λ c. if c then taken (Some t) (waits_in left other j) else waits_in left other j) off ∙ s.others other j off;
       }
 
   -- the list gets shorter
@@ -295,7 +307,7 @@ module _ (code : Code) (threads : List Thread) (l : Lists) (list : WaitList) (i 
 
   -- nobody is left, and the lists are as they were
   taken-none : IsRelisted left new (Some (list, i)) (taken None) → (other : WaitList) (j : ℕ) → waits_in new other j ≡ waits_in left other j
-  taken-none is other j = relisted-waits left new (Some (list, i)) (taken None) is waking-within other j ∙ by_test (is_at other j (Some (list, i)))
+  taken-none is other j = relisted-waits left new (Some (list, i)) (taken None) (orders None) is waking-within other j ∙ by_test (is_at other j (Some (list, i)))
     where
       by_test : (c : Bool) → (if c then waits_in left other j else waits_in left other j) ≡ waits_in left other j
       by_test true = refl
@@ -313,6 +325,7 @@ module _ (code : Code) (threads : List Thread) (l : Lists) (list : WaitList) (i 
       parts = s.parts ∙ ap (λ (w : Waits). woken ++ line w) (sym (taken-none is list i));
       rows = s.rows;
       shown = shown-again l left new s.shown (relisted-shown left new (Some (list, i)) (taken None) is (orders None));
+      others = λ other j off. taken-none is other j ∙ s.others other j off;
     },
     ap line (taken-none is list i) ∙ no-head (line (waits_in left list i)) none,
   )

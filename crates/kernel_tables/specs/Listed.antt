@@ -2,7 +2,7 @@
 use Rattle.std.specs.Prelude.{ℕ, ◌≡◌, ◌<◌, Bool, true, false, List, [], length, Option, Some, None, IfSome, IsTrue, map, slice_get, slice_set, slice_index_or, if◌then◌else◌}
 use Rattle.rt_base.specs.declared.codes.WaitOrder.{WaitOrder}
 use Rattle.rt_plain.specs.declared.stmt.Call.{Call}
-use Rattle.rt_plain.specs.kernel.State.{Thread, Sem, EventObj}
+use Rattle.rt_plain.specs.kernel.State.{Thread, Sem, EventObj, Mailbox, MsgQueue}
 use Rattle.rt_plain.specs.kernel.Waiting.{number_in}
 use Rattle.susp_list.specs.Rows.{Waits, holds, with_prio}
 use Rattle.susp_list.specs.declared.row.Row.{Row as WaitRow}
@@ -11,6 +11,7 @@ use Rattle.ipc_counts.specs.Counted.{Counted}
 use Rattle.ipc_counts.specs.Flags.{Flagged}
 use Rattle.ipc_counts.specs.Released.{without}
 use Rattle.ipc_counts.specs.declared.want.Want.{Want}
+use Rattle.ipc_queues.specs.Channels.{PlainChannels, mail_at, messages_at, slots_of, waits_at, changed_at}
 use Rattle.kernel_tables.specs.declared.lists.Lists.{Lists}
 use Rattle.kernel_tables.specs.declared.wait_list.WaitList.{WaitList}
 use Rattle.kernel_tables.specs.WaitLists.{is_at}
@@ -34,12 +35,24 @@ plain_sem sems o = record { name = o.name; value = (sem_at sems o.no).value; ord
 abbrev pub plain_event : List Flagged → Object → EventObj
 plain_event events o = record { name = o.name; flags = (event_at events o.no).flags; order = (event_at events o.no).waiters.order }
 
+abbrev pub plain_mailbox : PlainChannels → Object → Mailbox
+plain_mailbox c o = record { name = o.name; size = (mail_at c.mails o.no).mailbox.size; order = (mail_at c.mails o.no).ends.order; words = (mail_at c.mails o.no).mailbox.words }
+
+abbrev pub plain_queue : PlainChannels → Object → MsgQueue
+plain_queue c o = record { name = o.name; max = (messages_at c.messages o.no).queue.max; size = (messages_at c.messages o.no).queue.size; order = (messages_at c.messages o.no).ends.order; messages = (messages_at c.messages o.no).queue.messages }
+
 -- all of a class, newest first
 abbrev pub plain_sems : Lists → List Sem
 plain_sems l = map (plain_sem l.sems.items) l.objects.sem.objects
 
 abbrev pub plain_events : Lists → List EventObj
 plain_events l = map (plain_event l.events.items) l.objects.event.objects
+
+abbrev pub plain_mailboxes : Lists → List Mailbox
+plain_mailboxes l = map (plain_mailbox l.channels) l.objects.mailbox.objects
+
+abbrev pub plain_queues : Lists → List MsgQueue
+plain_queues l = map (plain_queue l.channels) l.objects.msgqueue.objects
 
 -- the row of a thread in a wait list, by its base priority and the arrival number, if it waits there
 abbrev pub row_with : ℕ → Option ℕ → Option WaitRow
@@ -58,11 +71,13 @@ want_in _ = record { mask = 0; all = true; clear = false }
 abbrev pub waits_in : Lists → WaitList → ℕ → Waits
 waits_in l WaitList.Sem i = (sem_at l.sems.items i).waiters
 waits_in l WaitList.Event i = (event_at l.events.items i).waiters
+waits_in l (WaitList.Channel kind end) i = waits_at l.channels kind end i
 
 -- how many objects there may be that have the list
 abbrev pub slots_in : Lists → WaitList → ℕ
 slots_in l WaitList.Sem = length l.sems.items
 slots_in l WaitList.Event = length l.events.items
+slots_in l (WaitList.Channel kind end) = slots_of l.channels kind
 
 -- what the threads that wait for an event object want
 abbrev pub wants_in : Lists → ℕ → List Want
@@ -79,6 +94,10 @@ sems_with sems _ change = sems
 abbrev pub events_with : List Flagged → Option (WaitList × ℕ) → (Waits → Waits) → List Flagged
 events_with events (Some (WaitList.Event, i)) change = slice_set events i (record (event_at events i) { waiters = change (event_at events i).waiters })
 events_with events _ change = events
+
+abbrev pub channels_with : PlainChannels → Option (WaitList × ℕ) → (Waits → Waits) → PlainChannels
+channels_with c (Some (WaitList.Channel kind end, i)) change = changed_at c kind end i change
+channels_with c _ change = c
 
 -- without a thread
 abbrev pub left : ℕ → Waits → Waits
@@ -107,6 +126,7 @@ pub record IsRelisted (old new : Lists) (at : Option (WaitList × ℕ)) (change 
   pub objects : new.objects ≡ old.objects
   pub sems : new.sems.items ≡ sems_with old.sems.items at change
   pub events : new.events.items ≡ events_with old.events.items at change
+  pub channels : new.channels ≡ channels_with old.channels at change
 
 -- the number of an event object in whose list this is
 abbrev pub event_in : Option (WaitList × ℕ) → Option ℕ
@@ -118,6 +138,7 @@ pub record IsJoined (old new : Lists) (at : Option (WaitList × ℕ)) (t : ℕ) 
   pub objects : new.objects ≡ old.objects
   pub sems : new.sems.items ≡ sems_with old.sems.items at (joined t row)
   pub events : new.events.items ≡ events_joined old.events.items at t row want
+  pub channels : new.channels ≡ channels_with old.channels at (joined t row)
   pub wanted : IfSome (event_in at) (λ i. slice_get (event_at new.events.items i).wants t ≡ Some want)
 
 -- the objects show the same
@@ -125,6 +146,8 @@ pub record IsShownAs (old new : Lists) : Type 0 where
   pub objects : new.objects ≡ old.objects
   pub sems : map (plain_sem new.sems.items) old.objects.sem.objects ≡ plain_sems old
   pub events : map (plain_event new.events.items) old.objects.event.objects ≡ plain_events old
+  pub mailboxes : map (plain_mailbox new.channels) old.objects.mailbox.objects ≡ plain_mailboxes old
+  pub queues : map (plain_queue new.channels) old.objects.msgqueue.objects ≡ plain_queues old
 
 -- the list in which a thread stands, if there is one, holds it
 abbrev pub Holds : Lists → Option (WaitList × ℕ) → ℕ → Type 0

@@ -1,13 +1,17 @@
 -- What contracts see of the tables of threads and objects, and what is done with them.
-use Rattle.std.specs.Prelude.{ℕ, Bool, true, ◌≡◌, ◌≢◌, ◌+◌, ◌-◌, ◌<◌, not, List, ◌∷◌, Option, Some, None, Result, Ok, Err, map, filter, fold, length, is_some, bit_and, bit_or, nat_lt, if◌then◌else◌}
+use Rattle.std.specs.Prelude.{ℕ, Bool, true, false, ◌≡◌, ◌≢◌, ◌+◌, ◌-◌, ◌<◌, not, List, ◌∷◌, Option, Some, None, Result, Ok, Err, map, filter, fold, drop, length, slice_get, is_some, bit_and, bit_or, nat_lt, if◌then◌else◌}
 use Rattle.std.specs.List.{find, filter_map, range_with_len}
 use Rattle.std.specs.Str.{bytes_eq}
 use Rattle.rt_base.specs.declared.codes.Code.{Code}
 use Rattle.rt_base.specs.declared.codes.WaitOrder.{WaitOrder}
 use Rattle.rt_plain.specs.declared.stmt.Call.{Call}
-use Rattle.rt_plain.specs.kernel.State.{Thread, Stage, Active, Waiting, InCall, Sem, EventObj}
-use Rattle.rt_plain.specs.kernel.Waiting.{Waiter, number_in, threads_in_order, head_of, takes_sem, receives_event}
+use Rattle.rt_plain.specs.kernel.State.{Thread, Stage, Active, Waiting, InCall, Sem, EventObj, Mailbox, MsgQueue}
+use Rattle.rt_plain.specs.kernel.Waiting.{Waiter, number_in, threads_in_order, head_of, takes_sem, receives_event, sends_mail, receives_mail, sends_message, receives_message}
 use Rattle.rt_plain.specs.kernel.EventCalls.{Want as PlainWant, Wanting, is_satisfied, flags_after, flags_left, satisfied_waiters, want_of}
+use Rattle.rt_plain.specs.kernel.MailboxCalls.{has_mail_room}
+use Rattle.rt_plain.specs.kernel.QueueCalls.{has_message_room, is_too_long}
+use Rattle.ipc_queues.specs.declared.ends.End.{End}
+use Rattle.ipc_queues.specs.declared.fault.PutFault.{PutFault}
 use Rattle.object_box.specs.declared.fault.Make.{Make}
 use Rattle.object_box.specs.declared.fault.Make.TheVariants.{Taken, ClassFull}
 use Rattle.ipc_counts.specs.declared.sem.SemReleased.{SemReleased}
@@ -20,8 +24,12 @@ pub record Tabled : Type 0 where
   pub threads : List Thread
   pub sems : List Sem
   pub events : List EventObj
+  pub mailboxes : List Mailbox
+  pub queues : List MsgQueue
   pub sem_limit : ℕ
   pub event_limit : ℕ
+  pub mailbox_limit : ℕ
+  pub queue_limit : ℕ
 
 -- the semaphore of a name
 abbrev pub found_sem : List Sem → List ℕ → Option Sem
@@ -31,6 +39,14 @@ found_sem sems name = find (λ o. bytes_eq o.name name) sems
 abbrev pub found_event : List EventObj → List ℕ → Option EventObj
 found_event events name = find (λ o. bytes_eq o.name name) events
 
+-- the mailbox of a name
+abbrev pub found_mailbox : List Mailbox → List ℕ → Option Mailbox
+found_mailbox mailboxes name = find (λ o. bytes_eq o.name name) mailboxes
+
+-- the message queue of a name
+abbrev pub found_queue : List MsgQueue → List ℕ → Option MsgQueue
+found_queue queues name = find (λ o. bytes_eq o.name name) queues
+
 -- with another row for the semaphore of its name
 abbrev pub put_sem : List Sem → Sem → List Sem
 put_sem sems sem = map (λ o. if bytes_eq o.name sem.name then sem else o) sems
@@ -38,6 +54,14 @@ put_sem sems sem = map (λ o. if bytes_eq o.name sem.name then sem else o) sems
 -- with another row for the event object of its name
 abbrev pub put_event : List EventObj → EventObj → List EventObj
 put_event events event = map (λ o. if bytes_eq o.name event.name then event else o) events
+
+-- with another row for the mailbox of its name
+abbrev pub put_mailbox : List Mailbox → Mailbox → List Mailbox
+put_mailbox mailboxes mailbox = map (λ o. if bytes_eq o.name mailbox.name then mailbox else o) mailboxes
+
+-- with another row for the message queue of its name
+abbrev pub put_queue : List MsgQueue → MsgQueue → List MsgQueue
+put_queue queues queue = map (λ o. if bytes_eq o.name queue.name then queue else o) queues
 
 -- whether a thread at this stage waits for no object
 abbrev pub is_unlisted : Stage → Bool
@@ -48,6 +72,10 @@ is_unlisted _ = true
 abbrev pub knows : Tabled → Call → Bool
 knows k (Call.SemTake name timeout) = is_some (found_sem k.sems name)
 knows k (Call.EventRecv name mask all clear timeout) = is_some (found_event k.events name)
+knows k (Call.MbSend name word timeout) = is_some (found_mailbox k.mailboxes name)
+knows k (Call.MbRecv name timeout) = is_some (found_mailbox k.mailboxes name)
+knows k (Call.MqSend name timeout message) = is_some (found_queue k.queues name)
+knows k (Call.MqRecv name timeout) = is_some (found_queue k.queues name)
 knows k _ = true
 
 -- the waiter that a thread is, by its base priority, where it has an arrival number
@@ -69,6 +97,16 @@ sem_line threads sem = line_of threads sem.order (takes_sem sem.name)
 -- the threads that wait for an event object
 abbrev pub event_line : List Thread → EventObj → List ℕ
 event_line threads event = line_of threads event.order (receives_event event.name)
+
+-- the threads that wait at an end of a mailbox
+abbrev pub mail_line : List Thread → Mailbox → End → List ℕ
+mail_line threads mailbox End.Receivers = line_of threads mailbox.order (receives_mail mailbox.name)
+mail_line threads mailbox End.Senders = line_of threads mailbox.order (sends_mail mailbox.name)
+
+-- the threads that wait at an end of a message queue
+abbrev pub message_line : List Thread → MsgQueue → End → List ℕ
+message_line threads queue End.Receivers = line_of threads queue.order (receives_message queue.name)
+message_line threads queue End.Senders = line_of threads queue.order (sends_message queue.name)
 
 -- a woken thread with a code
 abbrev pub woken_row : Code → Thread → Thread
@@ -141,3 +179,52 @@ woken_on threads event mask = let flags = bit_or event.flags mask in map (λ w. 
 -- what is left after a mask is sent to an event object
 abbrev pub sent_to : Tabled → EventObj → ℕ → Tabled
 sent_to old event mask = let flags = bit_or event.flags mask in record old { threads = all_given old.threads (woken_on old.threads event mask); events = put_event old.events (record event { flags = flags_left flags (wanting_on old.threads event) }) }
+
+-- the mailboxes after a word was put into one with room
+abbrev pub mails_put : List Mailbox → (List ℕ → List ℕ) → Option Mailbox → List Mailbox
+mails_put mailboxes put None = mailboxes
+mails_put mailboxes put (Some mailbox) = if has_mail_room mailbox then put_mailbox mailboxes (record mailbox { words = put mailbox.words }) else mailboxes
+
+-- after the front word of one was taken
+abbrev pub mails_taken : List Mailbox → Option Mailbox → List Mailbox
+mails_taken mailboxes None = mailboxes
+mails_taken mailboxes (Some mailbox) = if is_some (slice_get mailbox.words 0) then put_mailbox mailboxes (record mailbox { words = drop 1 mailbox.words }) else mailboxes
+
+-- what a message queue answers to a message
+abbrev pub message_answer : List ℕ → MsgQueue → Result Unit PutFault
+message_answer message queue =
+    if is_too_long queue message then Err (PutFault.TooLong (length message) queue.max)
+    else if has_message_room queue then Ok tt
+    else Err PutFault.Full
+
+-- whether it takes it
+abbrev pub takes_message : List ℕ → MsgQueue → Bool
+takes_message message queue = if is_too_long queue message then false else has_message_room queue
+
+-- the message queues after a message was put into one that takes it
+abbrev pub messages_put : List MsgQueue → List ℕ → (List (List ℕ) → List (List ℕ)) → Option MsgQueue → List MsgQueue
+messages_put queues message put None = queues
+messages_put queues message put (Some queue) = if takes_message message queue then put_queue queues (record queue { messages = put queue.messages }) else queues
+
+-- after the front message of one was taken
+abbrev pub messages_taken : List MsgQueue → Option MsgQueue → List MsgQueue
+messages_taken queues None = queues
+messages_taken queues (Some queue) = if is_some (slice_get queue.messages 0) then put_queue queues (record queue { messages = drop 1 queue.messages }) else queues
+
+-- creations
+abbrev pub CreatesMailbox : Tabled → Tabled → Mailbox → Result Unit Make → Type 0
+CreatesMailbox old new mailbox (Ok done) = (found_mailbox old.mailboxes mailbox.name ≡ None) × ((length old.mailboxes < old.mailbox_limit) × (new ≡ record old { mailboxes = mailbox ∷ old.mailboxes }))
+CreatesMailbox old new mailbox (Err (Taken number)) = (is_some (found_mailbox old.mailboxes mailbox.name) ≡ true) × (new ≡ old)
+CreatesMailbox old new mailbox (Err (ClassFull limit)) = (found_mailbox old.mailboxes mailbox.name ≡ None) × ((length old.mailboxes ≡ old.mailbox_limit) × (new ≡ old))
+
+abbrev pub CreatesQueue : Tabled → Tabled → MsgQueue → Result Unit Make → Type 0
+CreatesQueue old new queue (Ok done) = (found_queue old.queues queue.name ≡ None) × ((length old.queues < old.queue_limit) × (new ≡ record old { queues = queue ∷ old.queues }))
+CreatesQueue old new queue (Err (Taken number)) = (is_some (found_queue old.queues queue.name) ≡ true) × (new ≡ old)
+CreatesQueue old new queue (Err (ClassFull limit)) = (found_queue old.queues queue.name ≡ None) × ((length old.queues ≡ old.queue_limit) × (new ≡ old))
+
+-- deletions
+abbrev pub without_mailbox : Tabled → List ℕ → List ℕ → Tabled
+without_mailbox old name woken = record old { threads = all_woken Code.Error old.threads woken; mailboxes = filter (λ o. not (bytes_eq o.name name)) old.mailboxes }
+
+abbrev pub without_queue : Tabled → List ℕ → List ℕ → Tabled
+without_queue old name woken = record old { threads = all_woken Code.Error old.threads woken; queues = filter (λ o. not (bytes_eq o.name name)) old.queues }

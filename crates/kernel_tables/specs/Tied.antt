@@ -9,14 +9,14 @@ use Rattle.ipc_counts.specs.Sent.{want_at}
 use Rattle.ipc_counts.specs.declared.want.Want.{Want}
 use Rattle.kernel_tables.specs.declared.lists.Lists.{Lists}
 use Rattle.kernel_tables.specs.declared.wait_list.WaitList.{WaitList}
-use Rattle.kernel_tables.specs.Listed.{plain_sems, plain_events, wait_row, waits_in, wants_in, slots_in}
+use Rattle.kernel_tables.specs.Listed.{plain_sems, plain_events, plain_mailboxes, plain_queues, wait_row, waits_in, wants_in, slots_in}
 use Rattle.kernel_tables.specs.Tabled.{Tabled}
 use Rattle.kernel_tables.specs.Threads.{row_at}
 use Rattle.kernel_tables.specs.WaitLists.{objects_in, calls_in, is_known}
 
 -- the threads and the objects, as contracts see them
 abbrev pub tabled : List Thread → Lists → Tabled
-tabled threads l = record { threads = threads; sems = plain_sems l; events = plain_events l; sem_limit = l.objects.sem.limit; event_limit = l.objects.event.limit }
+tabled threads l = record { threads = threads; sems = plain_sems l; events = plain_events l; mailboxes = plain_mailboxes l; queues = plain_queues l; sem_limit = l.objects.sem.limit; event_limit = l.objects.event.limit; mailbox_limit = l.objects.mailbox.limit; queue_limit = l.objects.msgqueue.limit }
 
 -- each wait list holds the threads whose stage names it, with their priority and arrival number, and nobody where there is no such object; each thread waits for an object that is there
 pub record AreTied (threads : List Thread) (a : AllObjects) (waits : WaitList → ℕ → Waits) : Type 0 where

@@ -6,32 +6,48 @@ use Rattle.std.specs.Str.{bytes_eq}
 use Rattle.rt_base.specs.declared.codes.Class.{Class}
 use Rattle.rt_plain.specs.declared.stmt.Call.{Call}
 use Rattle.rt_plain.specs.kernel.State.{Stage, Waiting, InCall}
-use Rattle.rt_plain.specs.kernel.Waiting.{takes_sem, receives_event}
+use Rattle.rt_plain.specs.kernel.Waiting.{takes_sem, receives_event, sends_mail, receives_mail, sends_message, receives_message}
 use Rattle.object_box.specs.declared.object.Object.{Object}
 use Rattle.object_box.specs.Classes.{AllObjects, of_class}
 use Rattle.object_box.specs.Objects.{ClassObjects, number_of}
+use Rattle.ipc_queues.specs.declared.channels.ChannelKind.{ChannelKind}
+use Rattle.ipc_queues.specs.declared.ends.End.{End}
 use Rattle.kernel_tables.specs.declared.wait_list.WaitList.{WaitList}
 
 -- the class whose objects have the list
 abbrev pub class_of : WaitList → Class
 class_of WaitList.Sem = Class.Sem
 class_of WaitList.Event = Class.Event
+class_of (WaitList.Channel ChannelKind.Mailbox end) = Class.Mailbox
+class_of (WaitList.Channel ChannelKind.MsgQueue end) = Class.MsgQueue
 
 -- the calls that wait in the list, of the object of a name
 abbrev pub waits_for : WaitList → List ℕ → Call → Bool
 waits_for WaitList.Sem name call = takes_sem name call
 waits_for WaitList.Event name call = receives_event name call
+waits_for (WaitList.Channel ChannelKind.Mailbox End.Receivers) name call = receives_mail name call
+waits_for (WaitList.Channel ChannelKind.Mailbox End.Senders) name call = sends_mail name call
+waits_for (WaitList.Channel ChannelKind.MsgQueue End.Receivers) name call = receives_message name call
+waits_for (WaitList.Channel ChannelKind.MsgQueue End.Senders) name call = sends_message name call
 
 -- the list in which a thread waits in a call, and the name of its object
 abbrev pub list_of : Call → Option (WaitList × List ℕ)
 list_of (Call.SemTake name timeout) = Some (WaitList.Sem, name)
 list_of (Call.EventRecv name mask all clear timeout) = Some (WaitList.Event, name)
+list_of (Call.MbSend name word timeout) = Some (WaitList.Channel ChannelKind.Mailbox End.Senders, name)
+list_of (Call.MbRecv name timeout) = Some (WaitList.Channel ChannelKind.Mailbox End.Receivers, name)
+list_of (Call.MqSend name timeout message) = Some (WaitList.Channel ChannelKind.MsgQueue End.Senders, name)
+list_of (Call.MqRecv name timeout) = Some (WaitList.Channel ChannelKind.MsgQueue End.Receivers, name)
 list_of _ = None
 
 -- each list has a number of its own
 abbrev pub index : WaitList → ℕ
 index WaitList.Sem = 0
 index WaitList.Event = 1
+index (WaitList.Channel ChannelKind.Mailbox End.Receivers) = 2
+index (WaitList.Channel ChannelKind.Mailbox End.Senders) = 3
+index (WaitList.Channel ChannelKind.MsgQueue End.Receivers) = 4
+index (WaitList.Channel ChannelKind.MsgQueue End.Senders) = 5
 
 abbrev pub is_same : WaitList → WaitList → Bool
 is_same list other = index list == index other

@@ -3,8 +3,10 @@
 
 mod event_table;
 mod lists;
+mod mailbox_table;
 mod object_rows;
 mod open;
+mod queue_table;
 mod sem_table;
 mod shown;
 mod stage;

@@ -8,8 +8,9 @@ ghost use Rattle.kernel_tables.specs.WaitLists.{list_of, number_at, list_at};
 use crate::stage::Stage;
 use crate::wait_list::WaitList;
 use ipc_counts::{EventObj, Sem, Want};
+use ipc_queues::{ChannelKind, Channels, End};
 use object_box::Objects;
-use rt_base::{Class, ObjNo, Prio, ThreadNo};
+use rt_base::{Name, ObjNo, Prio, ThreadNo};
 use rt_plain::Call;
 
 /// The objects that threads wait for, by number, with who waits.
@@ -18,21 +19,60 @@ pub struct Lists {
     pub objects: Objects,
     pub sems: Vec<Sem>,
     pub events: Vec<EventObj>,
+    pub channels: Channels,
+}
+
+// The flags that a call wants.
+fn want_in(call: &Call) -> Want
+    ensures { result ≡ want_in call.now }
+{
+    match call {
+        Call::EventRecv(_, mask, all, clear, _) => Want {
+            mask: *mask,
+            all: *all,
+            clear: *clear,
+        },
+        _ => Want {
+            mask: 0,
+            all: true,
+            clear: false,
+        },
+    }
 }
 
 impl Lists {
+    // A list with the number of the object of a name: `None` where there is none.
+    fn at(&self, list: WaitList, name: &Name) -> Option<(WaitList, ObjNo)>
+        ensures { result ≡ number_at self.now.objects (Some (list, name.now)) }
+    {
+        let no = self.objects.find(list.class(), name)?;
+        Some((list, no))
+    }
+
     // The list in which a thread waits in a call, with the number of its object: `None` where there is none.
     fn list_of(&self, call: &Call) -> Option<(WaitList, ObjNo)>
         ensures { result ≡ number_at self.now.objects (list_of call.now) }
     {
         match call {
-            Call::SemTake(name, _) => {
-                let no = self.objects.find(Class::Sem, name)?;
-                Some((WaitList::Sem, no))
+            Call::SemTake(name, _) => self.at(WaitList::Sem, name),
+            Call::EventRecv(name, _, _, _, _) => self.at(WaitList::Event, name),
+            Call::MbSend(name, _, _) => {
+                self.at(WaitList::Channel(ChannelKind::Mailbox, End::Senders), name)
             }
-            Call::EventRecv(name, _, _, _, _) => {
-                let no = self.objects.find(Class::Event, name)?;
-                Some((WaitList::Event, no))
+            Call::MbRecv(name, _) => {
+                self.at(
+                    WaitList::Channel(ChannelKind::Mailbox, End::Receivers),
+                    name,
+                )
+            }
+            Call::MqSend(name, _, _) => {
+                self.at(WaitList::Channel(ChannelKind::MsgQueue, End::Senders), name)
+            }
+            Call::MqRecv(name, _) => {
+                self.at(
+                    WaitList::Channel(ChannelKind::MsgQueue, End::Receivers),
+                    name,
+                )
             }
             _ => None,
         }
@@ -67,6 +107,11 @@ impl Lists {
                 event.leave(t);
                 Some(t)
             }
+            WaitList::Channel(kind, end) => {
+                let t = self.channels.first(kind, end, no)?;
+                self.channels.leave(kind, end, no, t);
+                Some(t)
+            }
         }
     }
 
@@ -78,6 +123,7 @@ impl Lists {
         match self.list_at(stage) {
             Some((WaitList::Sem, no)) => self.sems[no.0 as usize].waiters().leave(t),
             Some((WaitList::Event, no)) => self.events[no.0 as usize].leave(t),
+            Some((WaitList::Channel(kind, end), no)) => self.channels.leave(kind, end, no, t),
             None => {}
         }
     }
@@ -87,23 +133,15 @@ impl Lists {
         requires { MayJoin self.old (number_at self.old.objects (list_of call.now)) t }
         ensures { IsJoined self.old self.new (number_at self.old.objects (list_of call.now)) t (record { prio = prio; at = at }) (want_in call.now) }
     {
-        match call {
-            Call::SemTake(name, _) => {
-                if let Some(no) = self.objects.find(Class::Sem, name) {
-                    self.sems[no.0 as usize].waiters().join(t, prio, at);
-                }
+        match self.list_of(call) {
+            Some((WaitList::Sem, no)) => self.sems[no.0 as usize].waiters().join(t, prio, at),
+            Some((WaitList::Event, no)) => {
+                self.events[no.0 as usize].wait(t, want_in(call), prio, at);
             }
-            Call::EventRecv(name, mask, all, clear, _) => {
-                if let Some(no) = self.objects.find(Class::Event, name) {
-                    let want = Want {
-                        mask: *mask,
-                        all: *all,
-                        clear: *clear,
-                    };
-                    self.events[no.0 as usize].wait(t, want, prio, at);
-                }
+            Some((WaitList::Channel(kind, end), no)) => {
+                self.channels.join(kind, end, no, t, prio, at);
             }
-            _ => {}
+            None => {}
         }
     }
 
@@ -115,6 +153,9 @@ impl Lists {
         match self.list_at(stage) {
             Some((WaitList::Sem, no)) => self.sems[no.0 as usize].waiters().reprio(t, prio),
             Some((WaitList::Event, no)) => self.events[no.0 as usize].reprio(t, prio),
+            Some((WaitList::Channel(kind, end), no)) => {
+                self.channels.reprio(kind, end, no, t, prio);
+            }
             None => {}
         }
     }

@@ -1,9 +1,9 @@
-ghost use Rattle.std.specs.Prelude.{◌≡◌, not, [], reverse, length, map, filter, None, IfOk, if◌then◌else◌};
+ghost use Rattle.std.specs.Prelude.{◌≡◌, not, [], reverse, length, map, filter, None, IfOk, OnOk, if◌then◌else◌};
 ghost use Rattle.std.specs.List.{range_with_len, AllByRecursion};
 ghost use Rattle.rt_plain.specs.declared.board.ThreadDef.{ThreadDef as PlainDef};
 ghost use Rattle.rt_plain.specs.kernel.State.{Active, Initial, is_initial};
-ghost use Rattle.rt_plain.specs.kernel.Opening.{new_script_thread, new_sem, new_event};
-ghost use Rattle.kernel_tables.specs.Opened.{empty_waits, AreFreeSems, AreFreeEvents, AreEmpty, MayCreateSems, MayCreateEvents, MayOpen, first_tables};
+ghost use Rattle.rt_plain.specs.kernel.Opening.{new_script_thread, new_sem, new_event, new_mailbox, new_queue};
+ghost use Rattle.kernel_tables.specs.Opened.{empty_waits, AreFreeSems, AreFreeEvents, AreEmpty, MayCreateSems, MayCreateEvents, MayCreateMailboxes, MayCreateQueues, MayOpen, first_tables};
 ghost use Rattle.kernel_tables.specs.Threads.{plain_thread, row_at, stage_of};
 
 use crate::lists::Lists;
@@ -13,9 +13,10 @@ use crate::thread_list::ThreadList;
 use crate::threads::{Thread, Threads};
 use crate::vars::Vars;
 use ipc_counts::{EventObj, Sem};
+use ipc_queues::{Channels, Mailbox, MsgQueue};
 use object_box::{ClassLimits, Objects};
 use rt_base::{Class, Code, ThreadNo, WaitOrder};
-use rt_plain::{Board, EventDef, SemDef, ThreadDef};
+use rt_plain::{Board, EventDef, MailboxDef, QueueDef, SemDef, ThreadDef};
 use std::alloc::{AllocError, Global};
 
 // Where a thread stands before its first statement.
@@ -107,30 +108,44 @@ fn free_events(alloc: Global, count: u16, threads: u16) -> Result<Vec<EventObj>,
     Ok(events)
 }
 
+// For how many objects of each class there is room, and for the threads below which number.
+#[derive(Clone, Copy)]
+struct Room {
+    sems: u16,
+    events: u16,
+    mailboxes: u16,
+    queues: u16,
+    threads: u16,
+}
+
 impl Lists {
     // No objects, with room for so many of each class, and for the threads below a number in each wait list.
-    fn new(alloc: Global, sems: u16, events: u16, threads: u16) -> Result<Lists, AllocError>
-        ensures { IfOk result (λ l. AreEmpty l sems events threads) }
+    fn new(alloc: Global, room: &Room) -> Result<Lists, AllocError>
+        ensures { IfOk result (λ l. AreEmpty l room.now.sems room.now.events room.now.mailboxes room.now.queues room.now.threads) }
     {
         let limits = ClassLimits {
             thread: 0,
-            sem: sems,
-            event: events,
+            sem: room.sems,
+            event: room.events,
             mutex: 0,
-            mailbox: 0,
-            msgqueue: 0,
+            mailbox: room.mailboxes,
+            msgqueue: room.queues,
             timer: 0,
             device: 0,
         };
-        let sems = free_sems(alloc, sems, threads)?;
-        let events = free_events(alloc, events, threads)?;
+        let sems = free_sems(alloc, room.sems, room.threads)?;
+        let events = free_events(alloc, room.events, room.threads)?;
+        let channels = Channels::new(alloc, room.mailboxes, room.queues, room.threads)?;
         let objects = Objects::new(alloc, limits)?;
         let _ = objects.count(Class::Sem);
         let _ = objects.count(Class::Event);
+        let _ = objects.count(Class::Mailbox);
+        let _ = objects.count(Class::MsgQueue);
         Ok(Lists {
             objects,
             sems,
             events,
+            channels,
         })
     }
 }
@@ -156,6 +171,30 @@ impl Tables {
         }
     }
 
+    // The mailboxes of the board, in its order.
+    fn create_mailboxes(&mut self, alloc: Global, defs: &[MailboxDef]) -> Result<(), AllocError>
+        requires { MayCreateMailboxes self.old defs.now }
+        ensures { OnOk result (self.new ≡ record self.old { mailboxes = reverse (map new_mailbox defs.now) }) }
+    {
+        for def in defs {
+            let mailbox = Mailbox::new(alloc, def.size)?;
+            let _ = self.create_mailbox(def.name.copy(), mailbox, def.order);
+        }
+        Ok(())
+    }
+
+    // The message queues of the board, in its order.
+    fn create_queues(&mut self, alloc: Global, defs: &[QueueDef]) -> Result<(), AllocError>
+        requires { MayCreateQueues self.old defs.now }
+        ensures { OnOk result (self.new ≡ record self.old { queues = reverse (map new_queue defs.now) }) }
+    {
+        for def in defs {
+            let queue = MsgQueue::new(alloc, def.max, def.size)?;
+            let _ = self.create_queue(def.name.copy(), queue, def.order);
+        }
+        Ok(())
+    }
+
     /// The threads and the objects of a board as it opens, with room for as many objects of each class as it says. No
     /// other call takes memory. The one refusal is want of memory.
     pub fn open(alloc: Global, board: &Board) -> Result<Tables, AllocError>
@@ -163,11 +202,19 @@ impl Tables {
         ensures { IfOk result (λ k. k ≡ first_tables board.now) }
     {
         let threads = Threads::new(threads_of(alloc, board.threads.as_slice())?);
-        let count = threads.len() as u16;
-        let lists = Lists::new(alloc, board.limits.sem, board.limits.event, count)?;
+        let room = Room {
+            sems: board.limits.sem,
+            events: board.limits.event,
+            mailboxes: board.mailboxes.as_slice().len() as u16,
+            queues: board.queues.as_slice().len() as u16,
+            threads: threads.len() as u16,
+        };
+        let lists = Lists::new(alloc, &room)?;
         let mut tables = Tables { threads, lists };
         tables.create_sems(board.sems.as_slice());
         tables.create_events(board.events.as_slice());
+        tables.create_mailboxes(alloc, board.mailboxes.as_slice())?;
+        tables.create_queues(alloc, board.queues.as_slice())?;
         Ok(tables)
     }
 }

@@ -32,7 +32,16 @@ eq_of m n is = grind arith
 
 -- the objects of a valid board
 fitting : (b : PlainBoard) → IsStocked b → HasFittingObjects b
-fitting b stock = record { sem_room = stock.sems.0; event_room = stock.events.0; sem_names = stock.sems.1; event_names = stock.events.1 }
+fitting b stock = record {
+  sem_room = stock.sems.0;
+  event_room = stock.events.0;
+  mailbox_room = stock.mailboxes.0;
+  queue_room = stock.queues.0;
+  sem_names = stock.sems.1;
+  event_names = stock.events.1;
+  mailbox_names = stock.mailboxes.1;
+  queue_names = stock.queues.1;
+}
 
 pub built : (b : PlainBoard) → IsValid b → is_built b ≡ true → IsBuilt b
 built b valid is =

@@ -14,11 +14,11 @@ use Rattle.kernel_tables.proofs.tables.Tables.create_event.Goals as goal
 pub returns-in_err-no : goal.returns-in_err-no
 returns-in_err-no c =
     let l = c.self.inside.lists in
-    let after : Tabled = shown c.self.inside.threads c.make.new.self l.sems.items l.events.items in
+    let after : Tabled = shown c.self.inside.threads c.make.new.self l.sems.items l.events.items l.channels in
     subst (λ (old : Tabled). CreatesEvent old after (record { name = c.args.name; flags = 0; order = c.args.order }) c.from_residual.result) c.self.view_is
-    (subst (λ (r : Result Unit Make). CreatesEvent (shown c.self.inside.threads l.objects l.sems.items l.events.items) after (record { name = c.args.name; flags = 0; order = c.args.order }) r)
+    (subst (λ (r : Result Unit Make). CreatesEvent (shown c.self.inside.threads l.objects l.sems.items l.events.items l.channels) after (record { name = c.args.name; flags = 0; order = c.args.order }) r)
     (sym (err-is c.from_residual.result c.in_err-no.field-0.0 c.from_residual.ensures))
-    (refused-seen c.self.inside.threads l.objects c.make.new.self l.sems.items l.events.items (record { name = c.args.name; flags = 0; order = c.args.order }) c.in_err-no.field-0.0 c.in_err-no.ensures.cause c.in_err-no.ensures.state))
+    (refused-seen c.self.inside.threads l.objects c.make.new.self l.sems.items l.events.items l.channels (record { name = c.args.name; flags = 0; order = c.args.order }) c.in_err-no.field-0.0 c.in_err-no.ensures.cause c.in_err-no.ensures.state))
 
 pub index_mut-requires : goal.index_mut-requires
 index_mut-requires c =
@@ -44,7 +44,7 @@ invariant_of-self-2 c =
     let there : c.no.inside.0 < length l.events.items = subst (λ n. c.no.inside.0 < n) (sym (c.self.invariant.slots WaitList.Event)) below in
     let read : c.index_mut.result.now ≡ event_at l.events.items c.no.inside.0 = get_or_read l.events.items _ _ there c.index_mut.ensures.value no_event in
     let made : c.make.new.self ≡ made_event l.objects c.args.name c.no.inside.0 = c.in_ok-no.ensures.state ∙ ap (made_event l.objects c.args.name) (sym c.no.view_is) in
-    tied-made c.self.inside.threads l _ c.args.name c.no.inside.0 c.args.order c.index_mut.result.now c.reset.new.self c.self.invariant made cause.0 c.count.ensures.sound refl refl read c.reset.ensures
+    tied-made c.self.inside.threads l _ c.args.name c.no.inside.0 c.args.order c.index_mut.result.now c.reset.new.self c.self.invariant made cause.0 c.count.ensures.sound refl refl refl read c.reset.ensures
 
 pub returns : goal.returns
 returns c =
@@ -55,4 +55,4 @@ returns c =
     let free : has_number l.objects.event.objects c.no.inside.0 ≡ false = ap (has_number l.objects.event.objects) c.no.view_is ∙ cause.1.1.0.free in
     let made : c.make.new.self ≡ made_event l.objects c.args.name c.no.inside.0 = c.in_ok-no.ensures.state ∙ ap (made_event l.objects c.args.name) (sym c.no.view_is) in
     rw (← c.self.view_is)
-    (made-seen c.self.inside.threads l.objects c.make.new.self l.sems.items l.events.items c.args.name c.args.order c.no.inside.0 c.index_mut.result.now c.reset.new.self there cause.0 cause.1.0 free made c.reset.ensures)
+    (made-seen c.self.inside.threads l.objects c.make.new.self l.sems.items l.events.items l.channels c.args.name c.args.order c.no.inside.0 c.index_mut.result.now c.reset.new.self there cause.0 cause.1.0 free made c.reset.ensures)

@@ -10,11 +10,11 @@ use Rattle.kernel_tables.proofs.tables.Tables.create_sem.Goals as goal
 
 pub returns-in_err-no : goal.returns-in_err-no
 returns-in_err-no c =
-    let after : Tabled = shown c.self.inside.threads c.make.new.self c.self.inside.lists.sems.items c.self.inside.lists.events.items in
+    let after : Tabled = shown c.self.inside.threads c.make.new.self c.self.inside.lists.sems.items c.self.inside.lists.events.items c.self.inside.lists.channels in
     subst (λ (old : Tabled). CreatesSem old after (record { name = c.args.name; value = c.args.value; order = c.args.order }) c.from_residual.result) c.self.view_is
-    (subst (λ (r : Result Unit Make). CreatesSem (shown c.self.inside.threads c.self.inside.lists.objects c.self.inside.lists.sems.items c.self.inside.lists.events.items) after (record { name = c.args.name; value = c.args.value; order = c.args.order }) r)
+    (subst (λ (r : Result Unit Make). CreatesSem (shown c.self.inside.threads c.self.inside.lists.objects c.self.inside.lists.sems.items c.self.inside.lists.events.items c.self.inside.lists.channels) after (record { name = c.args.name; value = c.args.value; order = c.args.order }) r)
     (sym (err-is c.from_residual.result c.in_err-no.field-0.0 c.from_residual.ensures))
-    (refused-seen c.self.inside.threads c.self.inside.lists.objects c.make.new.self c.self.inside.lists.sems.items c.self.inside.lists.events.items (record { name = c.args.name; value = c.args.value; order = c.args.order }) c.in_err-no.field-0.0 c.in_err-no.ensures.cause c.in_err-no.ensures.state))
+    (refused-seen c.self.inside.threads c.self.inside.lists.objects c.make.new.self c.self.inside.lists.sems.items c.self.inside.lists.events.items c.self.inside.lists.channels (record { name = c.args.name; value = c.args.value; order = c.args.order }) c.in_err-no.field-0.0 c.in_err-no.ensures.cause c.in_err-no.ensures.state))
 
 pub index_mut-requires : goal.index_mut-requires
 index_mut-requires c =
@@ -37,7 +37,7 @@ invariant_of-self-2 c =
     let there : c.no.inside.0 < length c.self.inside.lists.sems.items = subst (λ n. c.no.inside.0 < n) (sym (c.self.invariant.slots WaitList.Sem)) below in
     let made : c.make.new.self ≡ made_sem c.self.inside.lists.objects c.args.name c.no.inside.0 = c.in_ok-no.ensures.state ∙ ap (made_sem c.self.inside.lists.objects c.args.name) (sym c.no.view_is) in
     let at = slot-is c.self.inside.lists.sems.items c.no.inside.0 c.index_mut.result.now there c.index_mut.ensures.value in
-    tied-made c.self.inside.threads c.self.inside.lists _ c.args.name c.no.inside.0 c.reset.new.self c.self.invariant made cause.0 c.count.ensures.sound refl refl (ap (λ (x : Counted). x.waiters.rows) c.reset.ensures ∙ ap (λ (x : Counted). x.waiters.rows) at)
+    tied-made c.self.inside.threads c.self.inside.lists _ c.args.name c.no.inside.0 c.reset.new.self c.self.invariant made cause.0 c.count.ensures.sound refl refl refl (ap (λ (x : Counted). x.waiters.rows) c.reset.ensures ∙ ap (λ (x : Counted). x.waiters.rows) at)
 
 pub returns : goal.returns
 returns c =
@@ -46,4 +46,4 @@ returns c =
     let there : c.no.inside.0 < length c.self.inside.lists.sems.items = subst (λ n. c.no.inside.0 < n) (sym (c.self.invariant.slots WaitList.Sem)) below in
     let free : has_number c.self.inside.lists.objects.sem.objects c.no.inside.0 ≡ false = ap (has_number c.self.inside.lists.objects.sem.objects) c.no.view_is ∙ cause.1.1.0.free in
     let made : c.make.new.self ≡ made_sem c.self.inside.lists.objects c.args.name c.no.inside.0 = c.in_ok-no.ensures.state ∙ ap (made_sem c.self.inside.lists.objects c.args.name) (sym c.no.view_is) in
-    rw (← c.self.view_is, c.reset.ensures) (made-seen c.self.inside.threads c.self.inside.lists.objects c.make.new.self c.self.inside.lists.sems.items c.self.inside.lists.events.items c.args.name c.args.value c.args.order c.no.inside.0 c.index_mut.result.now.waiters.rows there cause.0 cause.1.0 free made)
+    rw (← c.self.view_is, c.reset.ensures) (made-seen c.self.inside.threads c.self.inside.lists.objects c.make.new.self c.self.inside.lists.sems.items c.self.inside.lists.events.items c.self.inside.lists.channels c.args.name c.args.value c.args.order c.no.inside.0 c.index_mut.result.now.waiters.rows there cause.0 cause.1.0 free made)

@@ -32,7 +32,7 @@ invariant_of-self c =
     let w = c.wake_all.ensures in
     let is : number_of l.objects.event.objects c.args.name.now ≡ Some c.in-Some.no = sym c.find.ensures ∙ c.in-Some.is in
     tied-removed c.wake_all.new.threads c.wake_all.new.lists _ c.args.name.now c.in-Some.no w.tied (ap (λ (a : AllObjects). number_of a.event.objects c.args.name.now) w.shown.objects ∙ is) w.empty
-    c.remove.ensures c.count.ensures.sound refl refl
+    c.remove.ensures c.count.ensures.sound refl refl refl
 
 pub returns-clause-answer : goal.returns-clause-answer
 returns-clause-answer c =

@@ -59,6 +59,6 @@ invariant_of-self c =
     let read : c.index_mut.result.now ≡ event_at l.events.items c.no.inside.0 = get_or_read l.events.items _ _ there c.index_mut.ensures.value no_event in
     let want = plain_want c.args.want in
     let e = c.try_recv.ensures in
-    lists-kept c.self.inside.threads l _ c.self.invariant refl (event-keeps l _ c.no.inside.0 c.try_recv.new.self refl refl
+    lists-kept c.self.inside.threads l _ c.self.invariant refl (event-keeps l _ c.no.inside.0 c.try_recv.new.self refl refl refl
     (received-rows want c.index_mut.result.now c.try_recv.new.self c.try_recv.result e.cleared e.none ∙ ap (λ (x : Flagged). x.waiters.rows) read)
     (received-wants want c.index_mut.result.now c.try_recv.new.self c.try_recv.result e.cleared e.none ∙ ap (λ (x : Flagged). x.wants) read))

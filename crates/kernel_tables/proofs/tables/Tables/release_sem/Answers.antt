@@ -28,7 +28,7 @@ invariant_of-self c =
     let is : number_of l.objects.sem.objects c.args.name.now ≡ Some c.no.inside.0 = sym c.find.ensures ∙ c.in_ok-no.was ∙ ap (λ n. Some n) (sym c.no.view_is) in
     let there = slot-there c.self.inside.threads l c.args.name.now c.no.inside.0 c.self.invariant is in
     let at = slot-is l.sems.items c.no.inside.0 c.index_mut.result.now there c.index_mut.ensures.value in
-    woke-tied c.self.inside.threads c.wake.new.self l _ c.args.name.now c.no.inside.0 c.in-Woke.t c.index_mut.result.now c.release-answer.new.self c.self.invariant is at c.in-Woke.ensures refl refl refl c.wake.ensures
+    woke-tied c.self.inside.threads c.wake.new.self l _ c.args.name.now c.no.inside.0 c.in-Woke.t c.index_mut.result.now c.release-answer.new.self c.self.invariant is at c.in-Woke.ensures refl refl refl refl c.wake.ensures
 
 pub returns : goal.returns
 returns c =

@@ -71,7 +71,7 @@ invariant_of-self c =
     let rows : c.loop-i.self-inside.threads ≡ all_given c.self.inside.threads (woken_by (bit_or (event_at l.events.items c.no.inside.0).flags c.args.mask) (wanting (event_at l.events.items c.no.inside.0))) =
     giving-end c.self.inside.threads c.loop-i.self-inside.threads c.send.new.self c.loop-i.i c.loop-i.invariant.giving (omega (arith, c.loop-i-test.false, c.len-i-end.ensures)) ∙ ap (all_given c.self.inside.threads) woken in
     tied-sent c.self.inside.threads l c.no.inside.0 c.self.invariant there c.args.mask c.loop-i.self-inside.threads c.loop-i.self-inside.lists rows (ap (λ (x : Lists). x.objects) c.loop-i.invariant.lists) (ap (λ (x : Lists). x.sems.items) c.loop-i.invariant.lists)
-    (ap (λ (x : Lists). x.events.items) c.loop-i.invariant.lists ∙ ap (slice_set l.events.items c.no.inside.0) event_is)
+    (ap (λ (x : Lists). x.events.items) c.loop-i.invariant.lists ∙ ap (slice_set l.events.items c.no.inside.0) event_is) (ap (λ (x : Lists). x.channels) c.loop-i.invariant.lists)
 
 pub give-requires : goal.give-requires
 give-requires c =

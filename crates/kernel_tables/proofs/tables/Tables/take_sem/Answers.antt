@@ -3,7 +3,7 @@ use Rattle.std.specs.Option.{option_map}
 use Rattle.rt_plain.specs.kernel.State.{Sem as PlainSem}
 use Rattle.ipc_counts.specs.Counted.{Counted}
 use Rattle.object_box.specs.Objects.{number_of}
-use Rattle.kernel_tables.specs.Listed.{plain_event}
+use Rattle.kernel_tables.specs.Listed.{plain_event, plain_mailboxes, plain_queues}
 use Rattle.kernel_tables.specs.declared.wait_list.WaitList.{WaitList}
 use Rattle.kernel_tables.proofs.MadeLemmas.{lists-kept}
 use Rattle.kernel_tables.proofs.SemLemmas.{seen-none, seen-some, slot-there, slot-is, take-seen, taken-keeps}
@@ -42,7 +42,11 @@ returns-clause-state c =
       sems = take-seen c.self.inside.lists.objects.sem c.self.inside.lists.sems.items c.args.name.now c.no.inside.0 c.try_take.result c.index_mut.result.now c.try_take.new.self (c.self.invariant.lists.sound WaitList.Sem) there is at c.try_take.ensures.exactly c.try_take.ensures.taken c.try_take.ensures.empty k;
       events = map (plain_event c.self.inside.lists.events.items) c.self.inside.lists.objects.event.objects;
       sem_limit = c.self.inside.lists.objects.sem.limit;
+      mailboxes = plain_mailboxes c.self.inside.lists;
+      queues = plain_queues c.self.inside.lists;
       event_limit = c.self.inside.lists.objects.event.limit;
+      mailbox_limit = c.self.inside.lists.objects.mailbox.limit;
+      queue_limit = c.self.inside.lists.objects.msgqueue.limit;
     })
 
 pub invariant_of-self : goal.invariant_of-self
@@ -51,4 +55,4 @@ invariant_of-self c =
     let is : number_of l.objects.sem.objects c.args.name.now ≡ Some c.no.inside.0 = sym c.find.ensures ∙ c.in_ok-no.was ∙ ap (λ n. Some n) (sym c.no.view_is) in
     let there = slot-there c.self.inside.threads l c.args.name.now c.no.inside.0 c.self.invariant is in
     let at = slot-is l.sems.items c.no.inside.0 c.index_mut.result.now there c.index_mut.ensures.value in
-    lists-kept c.self.inside.threads l _ c.self.invariant refl (taken-keeps l _ c.no.inside.0 c.try_take.result c.index_mut.result.now c.try_take.new.self at c.try_take.ensures.taken c.try_take.ensures.empty refl refl)
+    lists-kept c.self.inside.threads l _ c.self.invariant refl (taken-keeps l _ c.no.inside.0 c.try_take.result c.index_mut.result.now c.try_take.new.self at c.try_take.ensures.taken c.try_take.ensures.empty refl refl refl)
