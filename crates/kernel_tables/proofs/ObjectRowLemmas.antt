@@ -1,4 +1,4 @@
--- The rows of the tables of semaphores and of event objects.
+-- The rows of the tables of the objects.
 use Rattle.std.proofs.Common.{◌≡◌, ◌<◌, ◌||◌, ℕ, zero, suc, List, [], ◌∷◌, Some, Bool, true, false, cond, refl, sym, ap, ◌∙◌, subst, length, map, slice_get, slice_index_or, option_map}
 use Rattle.std.specs.Prelude.{find}
 use Rattle.std.specs.Str.{bytes_eq}
@@ -15,13 +15,18 @@ use Rattle.object_box.specs.Objects.{ClassObjects, IsSound, number_of}
 use Rattle.ipc_counts.specs.Counted.{Counted}
 use Rattle.ipc_counts.specs.Flags.{Flagged}
 use Rattle.kernel_tables.specs.declared.lists.Lists.{Lists}
-use Rattle.kernel_tables.specs.Listed.{sem_at, event_at, plain_sem, plain_event, plain_sems, plain_events, wait_row, no_waits}
+use Rattle.kernel_tables.specs.Listed.{sem_at, event_at, plain_sem, plain_event, plain_sems, plain_events, plain_mailbox, plain_mailboxes, plain_queue, plain_queues, wait_row, no_waits}
 use Rattle.kernel_tables.specs.WaitLists.{calls_on, is_there}
 use Rattle.kernel_tables.specs.declared.wait_list.WaitList.{WaitList}
-use Rattle.kernel_tables.specs.ObjectRows.{sem_shown, event_shown}
-use Rattle.kernel_tables.specs.Tabled.{line_of}
+use Rattle.ipc_queues.specs.Channels.{mail_at, messages_at, slots_of, waits_at}
+use Rattle.ipc_queues.specs.declared.channels.ChannelKind.{ChannelKind}
+use Rattle.ipc_queues.specs.declared.ends.End.{End}
+use Rattle.kernel_tables.specs.ObjectRows.{sem_shown, event_shown, mailbox_shown, queue_shown}
+use Rattle.kernel_tables.specs.Tabled.{line_of, mail_line, message_line}
 use Rattle.kernel_tables.specs.Tied.{IsTied}
 use Rattle.kernel_tables.proofs.FoundLemmas.{AreApart, apart, same_name, name_same, found-calls}
+use Rattle.kernel_tables.proofs.MailboxLemmas.{seen-line as mail-seen}
+use Rattle.kernel_tables.proofs.QueueLemmas.{seen-line as message-seen}
 use Rattle.kernel_tables.proofs.TiedLemmas.{tied-line, line-same}
 
 -- an object at a place is there
@@ -80,3 +85,37 @@ event_row_is threads l place o event tied at is =
     ap (option_map (event_shown threads)) (slice_get-map (plain_event l.events.items) l.objects.event.objects place ∙ ap (option_map (plain_event l.events.items)) at)
     ∙ ap (λ (ts : List ℕ). Some (Row.Event o.name (event_at l.events.items o.no).flags (length ts))) (sym lined)
     ∙ ap (λ (e : Flagged). Some (Row.Event o.name e.flags (length (line e.waiters)))) same
+
+-- the slot of a mailbox at a place
+pub mail_placed : (threads : List Thread) (l : Lists) (place : ℕ) (o : Object) → IsTied threads l → slice_get l.objects.mailbox.objects place ≡ Some o → o.no < slots_of l.channels ChannelKind.Mailbox
+mail_placed threads l place o tied at =
+    let list = WaitList.Channel ChannelKind.Mailbox End.Receivers in
+    subst (λ n. o.no < n) (sym (tied.slots list)) (placed_below l.objects.mailbox place o (tied.lists.sound list) at)
+
+-- the row of a mailbox at a place
+pub mailbox_row_is : (threads : List Thread) (l : Lists) (place : ℕ) (o : Object) → IsTied threads l → slice_get l.objects.mailbox.objects place ≡ Some o
+    → option_map (mailbox_shown threads) (slice_get (plain_mailboxes l) place)
+    ≡ Some (Row.Mailbox o.name (length (mail_at l.channels.mails o.no).mailbox.words) (mail_at l.channels.mails o.no).mailbox.size (length (line (waits_at l.channels ChannelKind.Mailbox End.Receivers o.no))) (length (line (waits_at l.channels ChannelKind.Mailbox End.Senders o.no))))
+mailbox_row_is threads l place o tied at =
+    let m = plain_mailbox l.channels o in
+    let number = placed_apart l.objects.mailbox.objects place o (apart l.objects.mailbox (tied.lists.sound (WaitList.Channel ChannelKind.Mailbox End.Receivers))) at in
+    ap (option_map (mailbox_shown threads)) (slice_get-map (plain_mailbox l.channels) l.objects.mailbox.objects place ∙ ap (option_map (plain_mailbox l.channels)) at)
+    ∙ ap (λ (ts : List ℕ). Some (Row.Mailbox o.name (length m.words) m.size (length ts) (length (mail_line threads m End.Senders)))) (sym (mail-seen threads l o.name o.no End.Receivers tied number))
+    ∙ ap (λ (ts : List ℕ). Some (Row.Mailbox o.name (length m.words) m.size (length (line (waits_at l.channels ChannelKind.Mailbox End.Receivers o.no))) (length ts))) (sym (mail-seen threads l o.name o.no End.Senders tied number))
+
+-- the slot of a message queue at a place
+pub queue_placed : (threads : List Thread) (l : Lists) (place : ℕ) (o : Object) → IsTied threads l → slice_get l.objects.msgqueue.objects place ≡ Some o → o.no < slots_of l.channels ChannelKind.MsgQueue
+queue_placed threads l place o tied at =
+    let list = WaitList.Channel ChannelKind.MsgQueue End.Receivers in
+    subst (λ n. o.no < n) (sym (tied.slots list)) (placed_below l.objects.msgqueue place o (tied.lists.sound list) at)
+
+-- the row of a message queue at a place
+pub queue_row_is : (threads : List Thread) (l : Lists) (place : ℕ) (o : Object) → IsTied threads l → slice_get l.objects.msgqueue.objects place ≡ Some o
+    → option_map (queue_shown threads) (slice_get (plain_queues l) place)
+    ≡ Some (Row.MsgQueue o.name (length (messages_at l.channels.messages o.no).queue.messages) (messages_at l.channels.messages o.no).queue.size (messages_at l.channels.messages o.no).queue.max (length (line (waits_at l.channels ChannelKind.MsgQueue End.Receivers o.no))) (length (line (waits_at l.channels ChannelKind.MsgQueue End.Senders o.no))))
+queue_row_is threads l place o tied at =
+    let q = plain_queue l.channels o in
+    let number = placed_apart l.objects.msgqueue.objects place o (apart l.objects.msgqueue (tied.lists.sound (WaitList.Channel ChannelKind.MsgQueue End.Receivers))) at in
+    ap (option_map (queue_shown threads)) (slice_get-map (plain_queue l.channels) l.objects.msgqueue.objects place ∙ ap (option_map (plain_queue l.channels)) at)
+    ∙ ap (λ (ts : List ℕ). Some (Row.MsgQueue o.name (length q.messages) q.size q.max (length ts) (length (message_line threads q End.Senders)))) (sym (message-seen threads l o.name o.no End.Receivers tied number))
+    ∙ ap (λ (ts : List ℕ). Some (Row.MsgQueue o.name (length q.messages) q.size q.max (length (line (waits_at l.channels ChannelKind.MsgQueue End.Receivers o.no))) (length ts))) (sym (message-seen threads l o.name o.no End.Senders tied number))
