@@ -1,6 +1,6 @@
 -- The ends of mailboxes and message queues, and who waits there.
-use Rattle.std.proofs.Common.{◌≡◌, ◌+◌, ◌<◌, ◌≤◌, ℕ, zero, suc, List, [], ◌∷◌, ◌++◌, Option, Some, None, Bool, true, false, refl, sym, ap, ◌∙◌, subst, arith, length, map, filter_map, is_some, length-set, length-append, cond}
-use Rattle.std.specs.Prelude.{slice_set, fold}
+use Rattle.std.proofs.Common.{◌≡◌, ◌+◌, ◌<◌, ◌≤◌, ℕ, suc, List, [], ◌∷◌, ◌++◌, Option, Some, None, Bool, true, false, refl, sym, ap, ◌∙◌, subst, arith, length, filter_map, is_some, length-set, cond}
+use Rattle.std.specs.Prelude.{slice_set}
 use Rattle.std.specs.List.{range_with_len, cons_option}
 use Rattle.std.proofs.lemmas.Bool.{false≢true}
 use Rattle.std.proofs.lemmas.Grind.{fold-append}
@@ -11,11 +11,11 @@ use Rattle.rt_base.specs.declared.codes.WaitOrder.{WaitOrder}
 use Rattle.rt_plain.specs.declared.stmt.Call.{Call}
 use Rattle.rt_plain.specs.kernel.State.{Thread, Stage, Waiting, InCall}
 use Rattle.rt_plain.specs.kernel.Waiting.{Waiter, number_in, in_order}
-use Rattle.susp_list.specs.Rows.{Waits, line}
+use Rattle.susp_list.specs.Rows.{line}
 use Rattle.susp_list.proofs.OrderLemmas.{length-in_order}
 use Rattle.ipc_counts.specs.Counted.{Counted}
 use Rattle.ipc_counts.specs.Flags.{Flagged}
-use Rattle.ipc_queues.specs.Channels.{PlainChannels, mail_at, messages_at, no_mail, no_messages, slots_of, ends_at, waits_at}
+use Rattle.ipc_queues.specs.Channels.{PlainChannels, mail_at, messages_at, no_mail, no_messages, slots_of, waits_at}
 use Rattle.ipc_queues.specs.Ends.{PlainEnds, end_waits}
 use Rattle.ipc_queues.specs.declared.channels.ChannelKind.{ChannelKind}
 use Rattle.ipc_queues.specs.declared.channels.MailSlot.{MailSlot}
@@ -27,7 +27,7 @@ use Rattle.kernel_tables.specs.Listed.{sem_at, event_at, waits_in, slots_in}
 use Rattle.kernel_tables.specs.Tabled.{base_waiter, waiter_with, line_of, all_woken, woken_row}
 use Rattle.kernel_tables.specs.Threads.{row_at, with_row}
 use Rattle.kernel_tables.specs.Tied.{IsTied}
-use Rattle.kernel_tables.specs.WaitLists.{is_at, objects_in, calls_in}
+use Rattle.kernel_tables.specs.WaitLists.{is_at, calls_in}
 use Rattle.kernel_tables.proofs.ListChangeLemmas.{set-part}
 use Rattle.kernel_tables.proofs.MadeLemmas.{KeepsWaits}
 use Rattle.kernel_tables.proofs.TiedLemmas.{tied-line}

@@ -1,6 +1,6 @@
 -- The tables before and after a call on a mailbox.
-use Rattle.std.proofs.Common.{◌≡◌, ◌≢◌, ◌<◌, ℕ, List, [], ◌∷◌, ◌++◌, Option, Some, None, Bool, true, false, not, refl, sym, ap, ◌∙◌, subst, arith, length, map, filter, drop, is_some, slice_get, IfSome}
-use Rattle.std.specs.Prelude.{if◌then◌else◌, Result, Ok, Err, slice_set, IfNone}
+use Rattle.std.proofs.Common.{◌≡◌, ◌<◌, ℕ, List, [], ◌∷◌, ◌++◌, Option, Some, None, Bool, true, false, not, refl, sym, ap, ◌∙◌, subst, arith, length, map, filter, drop, is_some, slice_get, IfSome}
+use Rattle.std.specs.Prelude.{if◌then◌else◌, Ok, Err, slice_set, IfNone}
 use Rattle.std.specs.Bool.{OnTrue, OnFalse}
 use Rattle.std.specs.Str.{bytes_eq}
 use Rattle.std.proofs.lemmas.Bool.{false≢true, OnTrue_at, OnFalse_at}
@@ -10,7 +10,6 @@ use Rattle.rt_base.specs.declared.codes.Code.{Code}
 use Rattle.rt_base.specs.declared.codes.WaitOrder.{WaitOrder}
 use Rattle.rt_plain.specs.kernel.State.{Thread, Mailbox}
 use Rattle.rt_plain.specs.kernel.Waiting.{head_of}
-use Rattle.rt_plain.specs.kernel.MailboxCalls.{has_mail_room}
 use Rattle.susp_list.specs.Rows.{line}
 use Rattle.object_box.specs.declared.object.Object.{Object}
 use Rattle.object_box.specs.Classes.{AllObjects}
@@ -19,7 +18,6 @@ use Rattle.object_box.specs.declared.fault.Make.TheVariants.{Taken, ClassFull}
 use Rattle.object_box.specs.Objects.{ClassObjects, IsSound, MakeCause, removed, has_number, number_of}
 use Rattle.ipc_queues.specs.Queues.{PlainMailbox}
 use Rattle.ipc_queues.specs.Channels.{PlainChannels, mail_at, no_mail, slots_of, waits_at, with_mailbox, has_room}
-use Rattle.ipc_queues.specs.Ends.{PlainEnds, end_waits}
 use Rattle.ipc_queues.specs.declared.channels.ChannelKind.{ChannelKind}
 use Rattle.ipc_queues.specs.declared.channels.MailSlot.{MailSlot}
 use Rattle.ipc_queues.specs.declared.channels.MessageSlot.{MessageSlot}
@@ -27,7 +25,7 @@ use Rattle.ipc_queues.specs.declared.ends.End.{End}
 use Rattle.kernel_tables.specs.declared.lists.Lists.{Lists}
 use Rattle.kernel_tables.specs.declared.wait_list.WaitList.{WaitList}
 use Rattle.kernel_tables.specs.Listed.{plain_mailbox, plain_mailboxes, plain_queue, plain_queues, wait_row, waits_in, IsShownAs}
-use Rattle.kernel_tables.specs.Tabled.{Tabled, found_mailbox, put_mailbox, mails_put, mails_taken, mail_line, CreatesMailbox, all_woken, without_mailbox}
+use Rattle.kernel_tables.specs.Tabled.{found_mailbox, put_mailbox, mails_put, mails_taken, mail_line, CreatesMailbox, all_woken, without_mailbox}
 use Rattle.kernel_tables.specs.Tied.{IsTied, tabled}
 use Rattle.kernel_tables.specs.WaitLists.{objects_in, calls_in, waits_for}
 use Rattle.kernel_tables.proofs.TiedLemmas.{tied-line, line-same, set-here, set-there}

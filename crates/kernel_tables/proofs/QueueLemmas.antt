@@ -1,5 +1,5 @@
 -- The tables before and after a call on a message queue.
-use Rattle.std.proofs.Common.{◌≡◌, ◌≢◌, ◌<◌, ℕ, List, [], ◌∷◌, ◌++◌, Option, Some, None, Bool, true, false, not, refl, sym, ap, ◌∙◌, subst, arith, length, map, filter, drop, is_some, slice_get, IfSome}
+use Rattle.std.proofs.Common.{◌≡◌, ◌<◌, ℕ, List, [], ◌∷◌, ◌++◌, Option, Some, None, Bool, true, false, not, refl, sym, ap, ◌∙◌, subst, arith, length, map, filter, drop, is_some, slice_get, IfSome}
 use Rattle.std.specs.Prelude.{if◌then◌else◌, Result, Ok, Err, slice_set, nat_lt, IfNone, OnOk, OnErr}
 use Rattle.std.specs.Str.{bytes_eq}
 use Rattle.std.proofs.lemmas.Bool.{false≢true}
@@ -9,7 +9,6 @@ use Rattle.rt_base.specs.declared.codes.Code.{Code}
 use Rattle.rt_base.specs.declared.codes.WaitOrder.{WaitOrder}
 use Rattle.rt_plain.specs.kernel.State.{Thread, MsgQueue}
 use Rattle.rt_plain.specs.kernel.Waiting.{head_of}
-use Rattle.rt_plain.specs.kernel.QueueCalls.{has_message_room, is_too_long}
 use Rattle.susp_list.specs.Rows.{line}
 use Rattle.object_box.specs.declared.object.Object.{Object}
 use Rattle.object_box.specs.Classes.{AllObjects}
@@ -18,7 +17,6 @@ use Rattle.object_box.specs.declared.fault.Make.TheVariants.{Taken, ClassFull}
 use Rattle.object_box.specs.Objects.{ClassObjects, IsSound, MakeCause, removed, has_number, number_of}
 use Rattle.ipc_queues.specs.Queues.{PlainMsgQueue}
 use Rattle.ipc_queues.specs.Channels.{PlainChannels, messages_at, no_messages, slots_of, waits_at, with_queue, put_answer}
-use Rattle.ipc_queues.specs.Ends.{PlainEnds, end_waits}
 use Rattle.ipc_queues.specs.declared.channels.ChannelKind.{ChannelKind}
 use Rattle.ipc_queues.specs.declared.channels.MessageSlot.{MessageSlot}
 use Rattle.ipc_queues.specs.declared.channels.MailSlot.{MailSlot}
@@ -27,7 +25,7 @@ use Rattle.ipc_queues.specs.declared.fault.PutFault.{PutFault}
 use Rattle.kernel_tables.specs.declared.lists.Lists.{Lists}
 use Rattle.kernel_tables.specs.declared.wait_list.WaitList.{WaitList}
 use Rattle.kernel_tables.specs.Listed.{plain_queue, plain_queues, plain_mailbox, plain_mailboxes, wait_row, waits_in, IsShownAs}
-use Rattle.kernel_tables.specs.Tabled.{Tabled, found_queue, put_queue, messages_put, messages_taken, message_line, CreatesQueue, all_woken, without_queue}
+use Rattle.kernel_tables.specs.Tabled.{found_queue, put_queue, messages_put, messages_taken, message_line, CreatesQueue, all_woken, without_queue}
 use Rattle.kernel_tables.specs.Tied.{IsTied, tabled}
 use Rattle.kernel_tables.specs.WaitLists.{objects_in, calls_in, waits_for}
 use Rattle.kernel_tables.proofs.TiedLemmas.{tied-line, line-same, set-here, set-there}

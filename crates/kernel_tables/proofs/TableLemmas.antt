@@ -1,6 +1,5 @@
 -- What the calls of the tables leave.
 use Rattle.std.proofs.Common.{◌≡◌, ℕ, zero, suc, ◌<◌, ◌||◌, List, [], ◌∷◌, Option, Some, None, Bool, true, false, refl, sym, ap, ◌∙◌, subst, length, map, slice_get, slice_set, is_some, IfSome, cond, find}
-use Rattle.std.specs.Prelude.{◌==◌, ◌-◌, if◌then◌else◌}
 use Rattle.std.specs.Option.{option_map}
 use Rattle.std.specs.Str.{bytes_eq}
 use Rattle.std.proofs.lemmas.List.{length-map, length-set}
@@ -9,7 +8,6 @@ use Rattle.std.proofs.lemmas.Option.{same_Some}
 use Rattle.rt_plain.specs.declared.stmt.Call.{Call}
 use Rattle.rt_plain.specs.kernel.State.{Thread, Stage, Active, Waiting, InCall, Sem, EventObj, Mailbox, MsgQueue, no_thread}
 use Rattle.rt_plain.specs.kernel.Waiting.{number_in}
-use Rattle.rt_plain.specs.kernel.Ticks.{thread_after_slice}
 use Rattle.rt_plain.specs.kernel.EventCalls.{want_of, want_of_call}
 use Rattle.susp_list.specs.Rows.{Waits, holds, is_waiting, with_prio}
 use Rattle.susp_list.specs.declared.row.Row.{Row as WaitRow}

@@ -1,10 +1,9 @@
-use Rattle.std.proofs.Common.{◌≡◌, ◌++◌, [], arith, refl, ap, sym, ◌∙◌, subst, length, length-append, List, ℕ}
+use Rattle.std.proofs.Common.{◌≡◌, ◌++◌, [], arith, ap, sym, ◌∙◌, length, length-append}
 use Rattle.rt_base.specs.declared.codes.Code.{Code}
-use Rattle.susp_list.specs.Rows.{Waits, line}
-use Rattle.ipc_queues.specs.Channels.{slots_of, waits_at}
+use Rattle.susp_list.specs.Rows.{line}
+use Rattle.ipc_queues.specs.Channels.{waits_at}
 use Rattle.ipc_queues.specs.declared.ends.End.{End}
 use Rattle.kernel_tables.specs.declared.wait_list.WaitList.{WaitList}
-use Rattle.kernel_tables.specs.Listed.{waits_in, slots_in}
 use Rattle.kernel_tables.specs.Tabled.{all_woken}
 use Rattle.kernel_tables.specs.WaitLists.{objects_in}
 use Rattle.kernel_tables.proofs.ListChangeLemmas.{shown-again}

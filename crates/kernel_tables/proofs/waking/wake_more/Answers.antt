@@ -1,4 +1,4 @@
-use Rattle.std.proofs.Common.{◌≡◌, ◌<◌, ◌++◌, ℕ, [], ◌∷◌, Option, Some, arith, refl, ap, sym, ◌∙◌, subst, length, length-append}
+use Rattle.std.proofs.Common.{◌≡◌, ◌++◌, ℕ, [], ◌∷◌, Option, Some, arith, refl, ap, sym, ◌∙◌, subst, length, length-append}
 use Rattle.std.proofs.lemmas.List.{append-nil, append_assoc}
 use Rattle.susp_list.specs.Rows.{line}
 use Rattle.kernel_tables.specs.Listed.{waits_in, taken, IsRelisted}

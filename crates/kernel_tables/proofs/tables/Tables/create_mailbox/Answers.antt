@@ -1,7 +1,6 @@
-use Rattle.std.proofs.Common.{arith, ◌≡◌, ◌<◌, ◌∙◌, [], false, sym, ap, length, subst, refl}
+use Rattle.std.proofs.Common.{arith, ◌<◌, [], sym, length, subst, refl}
 use Rattle.std.specs.Prelude.{Result}
 use Rattle.rt_plain.specs.kernel.State.{Mailbox as PlainMailbox}
-use Rattle.object_box.specs.Objects.{has_number}
 use Rattle.object_box.specs.declared.fault.Make.{Make}
 use Rattle.ipc_queues.specs.declared.channels.ChannelKind.{ChannelKind}
 use Rattle.ipc_queues.specs.declared.ends.End.{End}
@@ -9,7 +8,7 @@ use Rattle.kernel_tables.specs.declared.wait_list.WaitList.{WaitList}
 use Rattle.kernel_tables.specs.Tabled.{Tabled, CreatesMailbox}
 use Rattle.kernel_tables.specs.Tied.{tabled}
 use Rattle.kernel_tables.proofs.SemLemmas.{shown, err-is}
-use Rattle.kernel_tables.proofs.MailboxLemmas.{tied-made, free-end, made-seen, refused-seen, made_mailbox}
+use Rattle.kernel_tables.proofs.MailboxLemmas.{tied-made, free-end, made-seen, refused-seen}
 use Rattle.kernel_tables.proofs.tables.Tables.create_mailbox.Goals as goal
 
 pub returns-in_err-no : goal.returns-in_err-no

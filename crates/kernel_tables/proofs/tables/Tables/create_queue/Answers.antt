@@ -1,7 +1,6 @@
-use Rattle.std.proofs.Common.{arith, ◌≡◌, ◌<◌, ◌∙◌, [], false, sym, ap, length, subst, refl}
+use Rattle.std.proofs.Common.{arith, ◌<◌, [], sym, length, subst, refl}
 use Rattle.std.specs.Prelude.{Result}
 use Rattle.rt_plain.specs.kernel.State.{MsgQueue as PlainQueue}
-use Rattle.object_box.specs.Objects.{has_number}
 use Rattle.object_box.specs.declared.fault.Make.{Make}
 use Rattle.ipc_queues.specs.declared.channels.ChannelKind.{ChannelKind}
 use Rattle.ipc_queues.specs.declared.ends.End.{End}
@@ -9,7 +8,7 @@ use Rattle.kernel_tables.specs.declared.wait_list.WaitList.{WaitList}
 use Rattle.kernel_tables.specs.Tabled.{Tabled, CreatesQueue}
 use Rattle.kernel_tables.specs.Tied.{tabled}
 use Rattle.kernel_tables.proofs.SemLemmas.{shown, err-is}
-use Rattle.kernel_tables.proofs.QueueLemmas.{tied-made, free-end, made-seen, refused-seen, made_queue}
+use Rattle.kernel_tables.proofs.QueueLemmas.{tied-made, free-end, made-seen, refused-seen}
 use Rattle.kernel_tables.proofs.tables.Tables.create_queue.Goals as goal
 
 pub returns-in_err-no : goal.returns-in_err-no

@@ -1,8 +1,5 @@
-use Rattle.std.proofs.Common.{◌≡◌, ◌<◌, ◌∙◌, Some, None, sym, ap, subst, length, IfSome, Option, ℕ}
+use Rattle.std.proofs.Common.{◌∙◌, sym}
 use Rattle.std.proofs.lemmas.Option.{none-some}
-use Rattle.rt_plain.specs.kernel.Waiting.{head_of}
-use Rattle.object_box.specs.Objects.{number_of}
-use Rattle.kernel_tables.specs.Tabled.{Tabled}
 use Rattle.kernel_tables.proofs.QueueLemmas.{queue-there, queue-none, first-seen, first-there}
 use Rattle.kernel_tables.proofs.tables.Tables.first_at_queue.Goals as goal
 

@@ -1,11 +1,9 @@
-use Rattle.std.proofs.Common.{◌≡◌, ◌∙◌, ℕ, Option, Some, None, slice_get, sym, ap, refl, List}
+use Rattle.std.proofs.Common.{◌≡◌, ◌∙◌, ℕ, Option, Some, None, slice_get, sym, ap, refl}
 use Rattle.std.specs.Option.{option_map}
 use Rattle.rt_plain.specs.kernel.State.{Mailbox as PlainMailbox}
 use Rattle.object_box.specs.Objects.{number_of}
-use Rattle.ipc_queues.specs.Channels.{mail_at}
 use Rattle.ipc_queues.specs.declared.ends.End.{End}
 use Rattle.ipc_queues.specs.declared.channels.ChannelKind.{ChannelKind}
-use Rattle.kernel_tables.specs.Listed.{plain_mailboxes}
 use Rattle.kernel_tables.specs.Tied.{tabled}
 use Rattle.kernel_tables.specs.declared.wait_list.WaitList.{WaitList}
 use Rattle.kernel_tables.proofs.MadeLemmas.{lists-kept}

@@ -2,10 +2,8 @@ use Rattle.std.proofs.Common.{◌≡◌, ◌∙◌, ℕ, Option, Some, None, sli
 use Rattle.std.specs.Option.{option_map}
 use Rattle.rt_plain.specs.kernel.State.{MsgQueue as PlainQueue}
 use Rattle.object_box.specs.Objects.{number_of}
-use Rattle.ipc_queues.specs.Channels.{messages_at}
 use Rattle.ipc_queues.specs.declared.ends.End.{End}
 use Rattle.ipc_queues.specs.declared.channels.ChannelKind.{ChannelKind}
-use Rattle.kernel_tables.specs.Listed.{plain_queues}
 use Rattle.kernel_tables.specs.Tied.{tabled}
 use Rattle.kernel_tables.specs.declared.wait_list.WaitList.{WaitList}
 use Rattle.kernel_tables.proofs.MadeLemmas.{lists-kept}

@@ -1,14 +1,11 @@
-use Rattle.std.proofs.Common.{◌≡◌, ◌++◌, ◌∷◌, [], ◌∙◌, Some, None, sym, ap, refl, List}
+use Rattle.std.proofs.Common.{◌≡◌, ◌++◌, ◌∷◌, [], ◌∙◌, Some, None, sym, ap, refl}
 use Rattle.std.specs.Prelude.{Result}
 use Rattle.std.specs.Option.{option_map}
-use Rattle.rt_plain.specs.kernel.State.{MsgQueue as PlainMsgQueue}
 use Rattle.ipc_queues.specs.declared.fault.PutFault.{PutFault}
 use Rattle.kernel_tables.specs.Tabled.{message_answer}
 use Rattle.object_box.specs.Objects.{number_of}
-use Rattle.ipc_queues.specs.Channels.{messages_at}
 use Rattle.ipc_queues.specs.declared.ends.End.{End}
 use Rattle.ipc_queues.specs.declared.channels.ChannelKind.{ChannelKind}
-use Rattle.kernel_tables.specs.Listed.{plain_queues}
 use Rattle.kernel_tables.specs.Tied.{tabled}
 use Rattle.kernel_tables.specs.declared.wait_list.WaitList.{WaitList}
 use Rattle.kernel_tables.proofs.MadeLemmas.{lists-kept}
