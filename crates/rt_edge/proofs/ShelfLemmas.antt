@@ -1,7 +1,7 @@
 -- The first file of a name.
 use Rattle.std.proofs.Common.{◌≡◌, ◌<◌, ℕ, zero, suc, List, [], ◌∷◌, Some, true, drop, length, get_or, subst, refl, arith}
 use Rattle.std.specs.Str.{bytes_eq}
-use Rattle.rt_edge.specs.Seen.{Named}
+use Rattle.rt_edge.specs.Named.{Named}
 use Rattle.rt_edge.specs.Shelved.{names_of, content_of}
 
 -- from the file with a number on, the name holds what that file holds, if it is the file's name

@@ -1,4 +1,9 @@
 pub mod Counts
 pub mod Contents
-pub mod Seen
+pub mod Named
+pub mod SureFilesSeen
+pub mod MemFilesSeen
+pub mod MemSinkSeen
+pub mod DiskFilesSeen
+pub mod StdSinkSeen
 pub mod Shelved

@@ -2,7 +2,7 @@
 use Rattle.std.specs.Prelude.{ℕ, List, [], ◌∷◌, Option, Some, None, if◌then◌else◌, drop, slice_get}
 use Rattle.std.specs.Str.{bytes_eq}
 use Rattle.rt_edge.specs.Contents.{Names}
-use Rattle.rt_edge.specs.Seen.{Named}
+use Rattle.rt_edge.specs.Named.{Named}
 use Rattle.rt_edge.specs.declared.shelf.Place.{Place}
 
 -- what each name holds: of two files of one name the first counts

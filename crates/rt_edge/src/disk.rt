@@ -20,7 +20,7 @@ pub struct DiskFiles<'a, R: std::rt::Files> {
 impl<'a, R: std::rt::Files> Model for DiskFiles<'a, R> {
     ghost use Rattle.std.specs.Prelude.{[], Some};
     ghost use Rattle.std.specs.Option.{option_map_or};
-    ghost use Rattle.rt_edge.specs.Seen.{DiskFilesSeen};
+    ghost use Rattle.rt_edge.specs.DiskFilesSeen.{DiskFilesSeen};
 
     ghost Value = { DiskFilesSeen };
 

@@ -35,7 +35,7 @@ pub struct MemFiles {
 }
 
 impl Model for MemFiles {
-    ghost use Rattle.rt_edge.specs.Seen.{MemFilesSeen};
+    ghost use Rattle.rt_edge.specs.MemFilesSeen.{MemFilesSeen};
 
     ghost Value = { MemFilesSeen };
 
@@ -108,7 +108,7 @@ pub struct MemSink {
 
 impl Model for MemSink {
     ghost use Rattle.std.specs.Prelude.{◌<◌, ◌≤◌, vec_len, vec_capacity};
-    ghost use Rattle.rt_edge.specs.Seen.{MemSinkSeen};
+    ghost use Rattle.rt_edge.specs.MemSinkSeen.{MemSinkSeen};
 
     ghost Value = { MemSinkSeen };
 

@@ -26,7 +26,7 @@ pub(crate) struct Shelf {
 
 impl Model for Shelf {
     ghost use Rattle.std.specs.Prelude.{◌<◌};
-    ghost use Rattle.rt_edge.specs.Seen.{SureFilesSeen};
+    ghost use Rattle.rt_edge.specs.SureFilesSeen.{SureFilesSeen};
     ghost use Rattle.rt_edge.specs.Shelved.{left_of};
 
     ghost Value = { SureFilesSeen };

@@ -12,7 +12,7 @@ pub struct StdSink<W: Write + Drop> {
 }
 
 impl<W: Write + Drop> Model for StdSink<W> {
-    ghost use Rattle.rt_edge.specs.Seen.{StdSinkSeen};
+    ghost use Rattle.rt_edge.specs.StdSinkSeen.{StdSinkSeen};
 
     ghost Value = { StdSinkSeen };
 

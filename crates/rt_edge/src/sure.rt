@@ -13,7 +13,7 @@ pub struct SureFiles {
 }
 
 impl Model for SureFiles {
-    ghost use Rattle.rt_edge.specs.Seen.{SureFilesSeen};
+    ghost use Rattle.rt_edge.specs.SureFilesSeen.{SureFilesSeen};
 
     ghost Value = { SureFilesSeen };
 
