@@ -2,19 +2,13 @@
 use Rattle.std.proofs.Common.{inl, inr, ◌||◌, zero, suc, ℕ, ◌≡◌, ◌≢◌, ◌+◌, ◌<◌, ◌≤◌, List, [], ◌∷◌, ◌++◌, length, Bool, true, false, cond, Option, Some, None, refl, sym, ap, ◌∙◌, subst, arith}
 use Rattle.std.specs.List.{AllByRecursion, list_any, find}
 use Rattle.std.specs.Option.{option_map}
-use Rattle.std.proofs.lemmas.Bool.{false≢true}
+use Rattle.std.proofs.lemmas.Bool.{false≢true, cond-true, cond-false}
 use Rattle.std.proofs.lemmas.Bool.Decides.{nat_tests}
 use native.Mathlib.Decide.{ℕ_discrete}
 use mathlib.Core.Logic.{dite}
 use Rattle.timer_skip.specs.Armed.{ArmedRow, is_row_of}
 use Rattle.timer_skip.specs.Firing.{sooner, FiresBefore, IsInOrder, take_out}
 use Rattle.timer_skip.specs.Links.{Slot, Entry, entry_of, entry_at, go_on, walk, rows_of, is_on, on_level, IsChain, IsIn, key_of, next_of, link_after, last_key, IsBehind, with_next, first_after}
-
-pub if-true : {X : Type 0} (c : Bool) (x y : X) → c ≡ true → cond c x y ≡ x
-if-true c x y e = ap (λ b. cond b x y) e
-
-pub if-false : {X : Type 0} (c : Bool) (x y : X) → c ≡ false → cond c x y ≡ y
-if-false c x y e = ap (λ b. cond b x y) e
 
 -- what holds of each node of a list
 
@@ -72,7 +66,7 @@ on_level-append level (e ∷ front) rest = by_test (is_on level e) (on_level-app
 -- all nodes are on the lowest level
 pub on_level-lowest : (es : List Entry) → on_level 0 es ≡ es
 on_level-lowest [] = refl
-on_level-lowest (e ∷ es) = if-true (is_on 0 e) _ _ (let low : 0 ≤ e.top = omega arith in grind (arith, nat_tests, low)) ∙ ap (λ l. e ∷ l) (on_level-lowest es)
+on_level-lowest (e ∷ es) = cond-true (is_on 0 e) _ _ (let low : 0 ≤ e.top = omega arith in grind (arith, nat_tests, low)) ∙ ap (λ l. e ∷ l) (on_level-lowest es)
 
 pub length-on_level : (level : ℕ) (es : List Entry) → length (on_level level es) ≤ length es
 length-on_level level [] = omega arith
@@ -107,7 +101,7 @@ on_level-part level (e ∷ es) = by_test (is_on level e) refl (on_level-part lev
     by_test : (b : Bool) → is_on level e ≡ b → on_level (level + 1) (on_level level es) ≡ on_level (level + 1) es
         → on_level (level + 1) (cond b (e ∷ on_level level es) (on_level level es)) ≡ cond (is_on (level + 1) e) (e ∷ on_level (level + 1) es) (on_level (level + 1) es)
     by_test true is k = ap (λ l. cond (is_on (level + 1) e) (e ∷ l) l) k
-    by_test false is k = k ∙ sym (if-false (is_on (level + 1) e) _ _ (grind (arith, nat_tests, is)))
+    by_test false is k = k ∙ sym (cond-false (is_on (level + 1) e) _ _ (grind (arith, nat_tests, is)))
 
 -- so a node of a level is on the one below, too
 pub IsIn-below : (level : ℕ) (x : Entry) (es : List Entry) → IsIn x (on_level (level + 1) es) → IsIn x (on_level level es)
@@ -338,7 +332,7 @@ found at timer key (f ∷ es) b e = by_test (is_row_of timer f.row) refl e (foun
           there = ap (entry_at at) (sym same) ∙ b.0;
           is = (numbered timer f.row).0 is;
           one = inl refl;
-          first = if-true (is_row_of timer f.row) _ _ is;
+          first = cond-true (is_row_of timer f.row) _ _ is;
           any = ap (λ b. b || list_any (is_row_of timer) (rows_of es)) is;
         }
     by_test false is k more =
@@ -348,7 +342,7 @@ found at timer key (f ∷ es) b e = by_test (is_row_of timer f.row) refl e (foun
           there = w.there;
           is = w.is;
           one = inr w.one;
-          first = if-false (is_row_of timer f.row) _ _ is ∙ w.first;
+          first = cond-false (is_row_of timer f.row) _ _ is ∙ w.first;
           any = ap (λ b. b || list_any (is_row_of timer) (rows_of es)) is ∙ w.any;
         }
 
@@ -363,31 +357,31 @@ none_found timer (f ∷ es) e = by_test (is_row_of timer f.row) refl e (none_fou
     by_test true is k more = absurd (let no_key : ⊥ = cc in no_key)
     by_test false is k more =
         let w = more k in
-        (if-false (is_row_of timer f.row) _ _ is ∙ w.0, ap (λ b. b || list_any (is_row_of timer) (rows_of es)) is ∙ w.1, sym (if-false (is_row_of timer f.row) _ _ is ∙ ap (λ l. f.row ∷ l) (sym w.2)))
+        (cond-false (is_row_of timer f.row) _ _ is ∙ w.0, ap (λ b. b || list_any (is_row_of timer) (rows_of es)) is ∙ w.1, sym (cond-false (is_row_of timer f.row) _ _ is ∙ ap (λ l. f.row ∷ l) (sym w.2)))
 
 pub none_beyond : (timer n : ℕ) (es : List Entry) → AllByRecursion (λ (r : ArmedRow). r.timer < n) (rows_of es) → n ≤ timer → key_of timer es ≡ None
 none_beyond timer n [] h k = refl
-none_beyond timer n (e ∷ es) h k = let h0 = h.0 in if-false (is_row_of timer e.row) _ _ (not_numbered timer e.row (omega arith)) ∙ none_beyond timer n es h.1 k
+none_beyond timer n (e ∷ es) h k = let h0 = h.0 in cond-false (is_row_of timer e.row) _ _ (not_numbered timer e.row (omega arith)) ∙ none_beyond timer n es h.1 k
 
 pub key_of-front : (timer : ℕ) (front rest : List Entry) → AllByRecursion (λ (e : Entry). e.row.timer ≢ timer) front → key_of timer (front ++ rest) ≡ key_of timer rest
 key_of-front timer [] rest h = refl
-key_of-front timer (e ∷ front) rest h = if-false (is_row_of timer e.row) _ _ (not_numbered timer e.row h.0) ∙ key_of-front timer front rest h.1
+key_of-front timer (e ∷ front) rest h = cond-false (is_row_of timer e.row) _ _ (not_numbered timer e.row h.0) ∙ key_of-front timer front rest h.1
 
 pub key_of-other : (timer : ℕ) (front : List Entry) (e : Entry) (rest : List Entry) → e.row.timer ≢ timer → key_of timer (front ++ e ∷ rest) ≡ key_of timer (front ++ rest)
-key_of-other timer [] e rest h = if-false (is_row_of timer e.row) _ _ (not_numbered timer e.row h)
+key_of-other timer [] e rest h = cond-false (is_row_of timer e.row) _ _ (not_numbered timer e.row h)
 key_of-other timer (f ∷ front) e rest h = ap (λ o. cond (is_row_of timer f.row) (Some f.key) o) (key_of-other timer front e rest h)
 
 pub take_out-split : (timer : ℕ) (front : List Entry) (e : Entry) (rest : List Entry) → AllByRecursion (λ (f : Entry). f.row.timer ≢ timer) front → e.row.timer ≡ timer
     → rows_of (front ++ rest) ≡ take_out timer (rows_of (front ++ e ∷ rest))
-take_out-split timer [] e rest h is = sym (if-true (is_row_of timer e.row) _ _ (is_numbered timer e.row is))
-take_out-split timer (f ∷ front) e rest h is = ap (λ l. f.row ∷ l) (take_out-split timer front e rest h.1 is) ∙ sym (if-false (is_row_of timer f.row) _ _ (not_numbered timer f.row h.0))
+take_out-split timer [] e rest h is = sym (cond-true (is_row_of timer e.row) _ _ (is_numbered timer e.row is))
+take_out-split timer (f ∷ front) e rest h is = ap (λ l. f.row ∷ l) (take_out-split timer front e rest h.1 is) ∙ sym (cond-false (is_row_of timer f.row) _ _ (not_numbered timer f.row h.0))
 
 -- no other node has a timer's number
 pub others_behind : (timer : ℕ) (e : Entry) (rest : List Entry) → e.row.timer ≡ timer → AllByRecursion (FiresBefore e.row) (rows_of rest) → key_of timer rest ≡ None
 others_behind timer e [] is h = refl
 others_behind timer e (f ∷ rest) is h =
     let h0 = h.0 in
-    if-false (is_row_of timer f.row) _ _ (not_numbered timer f.row (λ same. h0.other_timer (is ∙ sym same))) ∙ others_behind timer e rest is h.1
+    cond-false (is_row_of timer f.row) _ _ (not_numbered timer f.row (λ same. h0.other_timer (is ∙ sym same))) ∙ others_behind timer e rest is h.1
 
 pub rest_in_order : (front : List Entry) (e : Entry) (rest : List Entry) → IsInOrder (rows_of (front ++ e ∷ rest)) → AllByRecursion (FiresBefore e.row) (rows_of rest)
 rest_in_order [] e rest h = h.0

@@ -2,6 +2,7 @@
 use Rattle.std.proofs.Common.{ℕ, ◌≡◌, ◌≢◌, ◌+◌, ◌<◌, ◌≤◌, List, [], ◌∷◌, ◌++◌, length, Bool, true, false, nat_lt, Option, Some, None, refl, sym, ap, ◌∙◌, subst, arith, set, get_or, get_or-set_other, get_or-set_same, append_assoc, length-append, length-set}
 use Rattle.std.specs.List.{AllByRecursion}
 use Rattle.std.specs.Option.{option_map}
+use Rattle.std.proofs.lemmas.Bool.{cond-true, cond-false}
 use Rattle.std.proofs.lemmas.Bool.Decides.{nat_tests}
 use Rattle.std.proofs.lemmas.List.{length-map}
 use native.Mathlib.Decide.{ℕ_discrete}
@@ -12,7 +13,7 @@ use Rattle.timer_skip.specs.Armed.{ArmedRow, is_row_of}
 use Rattle.timer_skip.specs.Firing.{sooner, FiresBefore, IsInOrder, IsLine, IsAnew, put_row, take_out}
 use Rattle.timer_skip.specs.Links.{Slot, slot_at, Entry, entry_of, entry_at, first_link, entries, rows_of, line, count, is_on, on_level, IsChain, IsIn, key_of, Links, IsLinked, next_of, link_on, is_before, IsFrom, IsEnd, last_key, IsBehind, IsStop, AreStops, with_next, first_after}
 use Rattle.timer_skip.proofs.Lines.{IsLine-put_row, IsLine-take_out, fits}
-use Rattle.timer_skip.proofs.Chains.{if-true, if-false, Each-front, Each-rest, Each-push, Each-more, Each-both, Each-of_rows, Each-on_level, Each-one, on_level-append, on_level-lowest, length-on_level, IsInOrder-on_level, IsIn-below, IsIn-front, walk-is, IsBacked, backed, HaveOwnKeys, own_keys, rest_chain, chain_same, relinked, own_front, last_apart, last_key-push, has_last, split, in_middle, in_more, in_less, fire_before, sooner_before, fires_sooner, not_sooner, level_part, is_numbered, Found, key_of-front, key_of-other, take_out-split, others_behind, rest_in_order, own_rest, decide, with_next-entry}
+use Rattle.timer_skip.proofs.Chains.{Each-front, Each-rest, Each-push, Each-more, Each-both, Each-of_rows, Each-on_level, Each-one, on_level-append, on_level-lowest, length-on_level, IsInOrder-on_level, IsIn-below, IsIn-front, walk-is, IsBacked, backed, HaveOwnKeys, own_keys, rest_chain, chain_same, relinked, own_front, last_apart, last_key-push, has_last, split, in_middle, in_more, in_less, fire_before, sooner_before, fires_sooner, not_sooner, level_part, is_numbered, Found, key_of-front, key_of-other, take_out-split, others_behind, rest_in_order, own_rest, decide, with_next-entry}
 
 -- how far a walk along a level has come
 pub record Reached {L : ℕ} (r : Rows L) (level : ℕ) (row : ArmedRow) (last : Option ℕ) (steps : ℕ) : Type 0 where
@@ -141,8 +142,8 @@ anew_behind row r a h = let later = a.later in grind (arith, nat_tests)
 put_row-stop : (x : Entry) (front rest : List Entry) → AllByRecursion (IsAnew x.row) (rows_of (front ++ rest)) → AllByRecursion (λ (e : Entry). sooner e.row x.row ≡ true) front → IsBehind x.row rest
     → rows_of (front ++ x ∷ rest) ≡ put_row x.row (rows_of (front ++ rest))
 put_row-stop x [] [] a b c = refl
-put_row-stop x [] (e ∷ rest) a b c = sym (if-true (nat_lt x.row.left e.row.left) _ _ (anew_behind x.row e.row a.0 c))
-put_row-stop x (e ∷ front) rest a b c = ap (λ l. e.row ∷ l) (put_row-stop x front rest a.1 b.1 c) ∙ sym (if-false (nat_lt x.row.left e.row.left) _ _ (anew_first x.row e.row a.0 b.0))
+put_row-stop x [] (e ∷ rest) a b c = sym (cond-true (nat_lt x.row.left e.row.left) _ _ (anew_behind x.row e.row a.0 c))
+put_row-stop x (e ∷ front) rest a b c = ap (λ l. e.row ∷ l) (put_row-stop x front rest a.1 b.1 c) ∙ sym (cond-false (nat_lt x.row.left e.row.left) _ _ (anew_first x.row e.row a.0 b.0))
 
 -- a node that is there has another key than one that isn't
 is_other : (at : ℕ → Option Slot) (key : ℕ) (e : Entry) → at key ≡ None → entry_at at e.key ≡ Some e → e.key ≢ key
@@ -156,10 +157,10 @@ last_there at key k front vacant b is =
 
 -- a node that is on a level, among those of it
 on_level-with : (level : ℕ) (front : List Entry) (e : Entry) (rest : List Entry) → is_on level e ≡ true → on_level level (front ++ e ∷ rest) ≡ on_level level front ++ e ∷ on_level level rest
-on_level-with level front e rest on = on_level-append level front (e ∷ rest) ∙ ap (λ l. on_level level front ++ l) (if-true (is_on level e) _ _ on)
+on_level-with level front e rest on = on_level-append level front (e ∷ rest) ∙ ap (λ l. on_level level front ++ l) (cond-true (is_on level e) _ _ on)
 
 on_level-without : (level : ℕ) (front : List Entry) (e : Entry) (rest : List Entry) → is_on level e ≡ false → on_level level (front ++ e ∷ rest) ≡ on_level level (front ++ rest)
-on_level-without level front e rest off = on_level-append level front (e ∷ rest) ∙ ap (λ l. on_level level front ++ l) (if-false (is_on level e) _ _ off) ∙ sym (on_level-append level front rest)
+on_level-without level front e rest off = on_level-append level front (e ∷ rest) ∙ ap (λ l. on_level level front ++ l) (cond-false (is_on level e) _ _ off) ∙ sym (on_level-append level front rest)
 
 -- a level is up to a node's top, or above it
 by_top : {X : Type 0} (level : ℕ) (e : Entry) → (level ≤ e.top → is_on level e ≡ true → X) → (e.top < level → is_on level e ≡ false → X) → X
@@ -243,7 +244,7 @@ module _ {L : ℕ} where
             let behind : AllByRecursion (λ (x : Entry). x.row.timer ≢ timer) w.front =
             Each-more (λ (x : Entry). IsAnew row x.row) (λ (x : Entry). x.row.timer ≢ timer) (λ x a. λ is. a.other_timer (is ∙ same)) w.front (Each-front (λ (x : Entry). IsAnew row x.row) w.front w.rest (Each-of_rows (IsAnew row) (w.front ++ w.rest) anew)) in
             ap (λ n. get_or (set r.places.items row.timer (Some e.key)) n None) same ∙ get_or-set_same r.places.items row.timer (Some e.key) None below
-            ∙ sym (key_of-front timer w.front (e ∷ w.rest) behind ∙ if-true (is_row_of timer row) _ _ (is_numbered timer row (sym same))))
+            ∙ sym (key_of-front timer w.front (e ∷ w.rest) behind ∙ cond-true (is_row_of timer row) _ _ (is_numbered timer row (sym same))))
             (λ other.
             get_or-set_other r.places.items row.timer timer (Some e.key) None other
             ∙ h.placed timer (omega (arith, less, ap length p.places, length-set r.places.items row.timer (Some e.key))) ∙ ap (key_of timer) parts ∙ sym (key_of-other timer w.front e w.rest (λ is. other (sym is))));

@@ -5,16 +5,11 @@ use Rattle.std.proofs.Math.Dec.{eqb}
 use Rattle.std.proofs.lemmas.List.{length-map}
 use Rattle.std.proofs.lemmas.Map.Steps.{length-le_from_distinct_below}
 use Rattle.std.specs.Option.{option_map}
+use Rattle.std.proofs.lemmas.Bool.{cond-true, cond-false}
 use Rattle.std.proofs.lemmas.Bool.Decides.{nat_tests}
 use Rattle.timer_skip.specs.Armed.{Armed, ArmedRow, put_by_number, by_number, due_rows, row_after, is_row_of, is_armed, left_of, without}
 use Rattle.timer_skip.specs.Firing.{FiresBefore, IsInOrder, IsLine, IsAnew, put_row, take_out}
 use Rattle.timer_skip.proofs.Starts.{Each-by_number, Each-from_by_number, Each-weaker, IsByStart, HaveOwnStarts, put_last, by_number-same, filter-by_number, put_comm, any-by_number, PassesOnce, find-by_number}
-
-if-true : {X : Type 0} (c : Bool) (x y : X) → c ≡ true → cond c x y ≡ x
-if-true c x y e = ap (λ b. cond b x y) e
-
-if-false : {X : Type 0} (c : Bool) (x y : X) → c ≡ false → cond c x y ≡ y
-if-false c x y e = ap (λ b. cond b x y) e
 
 own_starts : (rows : List ArmedRow) → IsInOrder rows → HaveOwnStarts rows
 own_starts [] h = tt
@@ -199,7 +194,7 @@ due_in_line rows h =
 
 none_due : (rows : List ArmedRow) → AllByRecursion (λ (r : ArmedRow). 0 < r.left) rows → filter (λ (r : ArmedRow). r.left == 0) rows ≡ []
 none_due [] h = refl
-none_due (r ∷ rs) h = let h0 = h.0 in if-false (r.left == 0) _ _ (grind (arith, nat_tests, h0)) ∙ none_due rs h.1
+none_due (r ∷ rs) h = let h0 = h.0 in cond-false (r.left == 0) _ _ (grind (arith, nat_tests, h0)) ∙ none_due rs h.1
 
 -- nothing is due where the first row isn't
 pub due_later : (row : ArmedRow) (rows : List ArmedRow) → IsInOrder (row ∷ rows) → 0 < row.left → due_rows (by_number (row ∷ rows)) ≡ []
@@ -210,10 +205,10 @@ due_later row rows h later =
 -- the first row is the first that is due, and the others are due behind it
 pub due_first : (row : ArmedRow) (rows : List ArmedRow) → IsInOrder (row ∷ rows) → row.left ≡ 0 → due_rows (by_number (row ∷ rows)) ≡ row ∷ due_rows (by_number rows)
 due_first row rows h is =
-    due_in_line (row ∷ rows) h ∙ (if-true (row.left == 0) _ _ (grind (arith, nat_tests, is))) ∙ sym (ap (λ l. row ∷ l) (due_in_line rows h.1))
+    due_in_line (row ∷ rows) h ∙ (cond-true (row.left == 0) _ _ (grind (arith, nat_tests, is))) ∙ sym (ap (λ l. row ∷ l) (due_in_line rows h.1))
 
 pub take_out_first : (row : ArmedRow) (rows : List ArmedRow) → take_out row.timer (row ∷ rows) ≡ rows
-take_out_first row rows = if-true (row.timer == row.timer) _ _ (grind (arith, nat_tests))
+take_out_first row rows = cond-true (row.timer == row.timer) _ _ (grind (arith, nat_tests))
 
 -- how many rows there are
 

@@ -1,14 +1,9 @@
 -- Rows by their start numbers.
 use Rattle.std.proofs.Common.{◌≡◌, ◌≢◌, ◌<◌, List, [], ◌∷◌, ◌++◌, filter, Bool, true, false, cond, ◌||◌, ◌&&◌, nat_lt, Option, Some, refl, sym, ap, ◌∙◌, arith}
 use Rattle.std.specs.List.{AllByRecursion, list_any, find}
+use Rattle.std.proofs.lemmas.Bool.{cond-true, cond-false}
 use Rattle.std.proofs.lemmas.Bool.Decides.{nat_tests}
 use Rattle.timer_skip.specs.Armed.{ArmedRow, put_by_number, by_number}
-
-if-true : {X : Type 0} (c : Bool) (x y : X) → c ≡ true → cond c x y ≡ x
-if-true c x y e = ap (λ b. cond b x y) e
-
-if-false : {X : Type 0} (c : Bool) (x y : X) → c ≡ false → cond c x y ≡ y
-if-false c x y e = ap (λ b. cond b x y) e
 
 -- what holds of a row and of each of a list
 
@@ -77,12 +72,12 @@ IsByStart-by_number (x ∷ xs) d = IsByStart-put x (by_number xs) (Each-by_numbe
 -- a row that was started before all others
 put_first : (r : ArmedRow) (xs : List ArmedRow) → AllByRecursion (λ (y : ArmedRow). r.number < y.number) xs → put_by_number r xs ≡ r ∷ xs
 put_first r [] h = refl
-put_first r (x ∷ xs) h = if-true (nat_lt r.number x.number) _ _ (grind (arith, nat_tests, h.0))
+put_first r (x ∷ xs) h = cond-true (nat_lt r.number x.number) _ _ (grind (arith, nat_tests, h.0))
 
 -- a row that was started after all others
 pub put_last : (r : ArmedRow) (xs : List ArmedRow) → AllByRecursion (λ (y : ArmedRow). y.number < r.number) xs → put_by_number r xs ≡ xs ++ r ∷ []
 put_last r [] h = refl
-put_last r (x ∷ xs) h = if-false (nat_lt r.number x.number) _ _ (grind (arith, nat_tests, h.0)) ∙ ap (λ l. x ∷ l) (put_last r xs h.1)
+put_last r (x ∷ xs) h = cond-false (nat_lt r.number x.number) _ _ (grind (arith, nat_tests, h.0)) ∙ ap (λ l. x ∷ l) (put_last r xs h.1)
 
 -- rows that are in order already
 pub by_number-same : (xs : List ArmedRow) → IsByStart xs → by_number xs ≡ xs
@@ -101,18 +96,18 @@ filter-put p r (x ∷ xs) s = by_tests (nat_lt r.number x.number) refl (p r) ref
         → filter p (put_by_number r xs) ≡ cond (p r) (put_by_number r (filter p xs)) (filter p xs)
         → filter p (cond b (r ∷ x ∷ xs) (x ∷ put_by_number r xs)) ≡ cond c (put_by_number r (cond d (x ∷ filter p xs) (filter p xs))) (cond d (x ∷ filter p xs) (filter p xs))
     by_tests true e true f true g more =
-        if-true (p r) _ _ f ∙ ap (λ l. r ∷ l) (if-true (p x) _ _ g) ∙ sym (if-true (nat_lt r.number x.number) _ _ e)
+        cond-true (p r) _ _ f ∙ ap (λ l. r ∷ l) (cond-true (p x) _ _ g) ∙ sym (cond-true (nat_lt r.number x.number) _ _ e)
     by_tests true e true f false g more =
         let less : r.number < x.number = grind (arith, nat_tests, e) in
         let later = Each-weaker (λ (y : ArmedRow). x.number < y.number) (λ (y : ArmedRow). r.number < y.number) (λ y h. omega arith) xs s.0 in
-        if-true (p r) _ _ f ∙ ap (λ l. r ∷ l) (if-false (p x) _ _ g) ∙ sym (put_first r (filter p xs) (Each-filter (λ (y : ArmedRow). r.number < y.number) p xs later))
-    by_tests true e false f true g more = if-false (p r) _ _ f ∙ if-true (p x) _ _ g
-    by_tests true e false f false g more = if-false (p r) _ _ f ∙ if-false (p x) _ _ g
+        cond-true (p r) _ _ f ∙ ap (λ l. r ∷ l) (cond-false (p x) _ _ g) ∙ sym (put_first r (filter p xs) (Each-filter (λ (y : ArmedRow). r.number < y.number) p xs later))
+    by_tests true e false f true g more = cond-false (p r) _ _ f ∙ cond-true (p x) _ _ g
+    by_tests true e false f false g more = cond-false (p r) _ _ f ∙ cond-false (p x) _ _ g
     by_tests false e true f true g more =
-        if-true (p x) _ _ g ∙ ap (λ l. x ∷ l) (more ∙ if-true (p r) _ _ f) ∙ sym (if-false (nat_lt r.number x.number) _ _ e)
-    by_tests false e true f false g more = if-false (p x) _ _ g ∙ more ∙ if-true (p r) _ _ f
-    by_tests false e false f true g more = if-true (p x) _ _ g ∙ ap (λ l. x ∷ l) (more ∙ if-false (p r) _ _ f)
-    by_tests false e false f false g more = if-false (p x) _ _ g ∙ more ∙ if-false (p r) _ _ f
+        cond-true (p x) _ _ g ∙ ap (λ l. x ∷ l) (more ∙ cond-true (p r) _ _ f) ∙ sym (cond-false (nat_lt r.number x.number) _ _ e)
+    by_tests false e true f false g more = cond-false (p x) _ _ g ∙ more ∙ cond-true (p r) _ _ f
+    by_tests false e false f true g more = cond-true (p x) _ _ g ∙ ap (λ l. x ∷ l) (more ∙ cond-false (p r) _ _ f)
+    by_tests false e false f false g more = cond-false (p x) _ _ g ∙ more ∙ cond-false (p r) _ _ f
 
 pub filter-by_number : (p : ArmedRow → Bool) (xs : List ArmedRow) → HaveOwnStarts xs → filter p (by_number xs) ≡ by_number (filter p xs)
 filter-by_number p [] d = refl
@@ -128,15 +123,15 @@ pub put_comm : (a b : ArmedRow) (xs : List ArmedRow) → a.number ≢ b.number �
 put_comm a b [] h = by_test (nat_lt a.number b.number) refl
   where
     by_test : (c : Bool) → nat_lt a.number b.number ≡ c → put_by_number a (b ∷ []) ≡ put_by_number b (a ∷ [])
-    by_test true e = if-true (nat_lt a.number b.number) _ _ e ∙ sym (if-false (nat_lt b.number a.number) _ _ (grind (arith, nat_tests)))
-    by_test false e = if-false (nat_lt a.number b.number) _ _ e ∙ sym (if-true (nat_lt b.number a.number) _ _ (grind (arith, nat_tests)))
+    by_test true e = cond-true (nat_lt a.number b.number) _ _ e ∙ sym (cond-false (nat_lt b.number a.number) _ _ (grind (arith, nat_tests)))
+    by_test false e = cond-false (nat_lt a.number b.number) _ _ e ∙ sym (cond-true (nat_lt b.number a.number) _ _ (grind (arith, nat_tests)))
 put_comm a b (c ∷ cs) h = by_tests (nat_lt a.number b.number) refl (nat_lt a.number c.number) refl (nat_lt b.number c.number) refl (put_comm a b cs h)
   where
     one : (x y : ArmedRow) (l : List ArmedRow) → nat_lt x.number y.number ≡ true → put_by_number x (y ∷ l) ≡ x ∷ y ∷ l
-    one x y l e = if-true _ _ _ e
+    one x y l e = cond-true _ _ _ e
 
     two : (x y : ArmedRow) (l : List ArmedRow) → nat_lt x.number y.number ≡ false → put_by_number x (y ∷ l) ≡ y ∷ put_by_number x l
-    two x y l e = if-false _ _ _ e
+    two x y l e = cond-false _ _ _ e
 
     by_tests : (p : Bool) → nat_lt a.number b.number ≡ p → (q : Bool) → nat_lt a.number c.number ≡ q → (r : Bool) → nat_lt b.number c.number ≡ r
         → put_by_number a (put_by_number b cs) ≡ put_by_number b (put_by_number a cs) → put_by_number a (put_by_number b (c ∷ cs)) ≡ put_by_number b (put_by_number a (c ∷ cs))
