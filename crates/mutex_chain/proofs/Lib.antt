@@ -19,3 +19,4 @@ pub mod UrgencyLemmas
 pub mod WalkLemmas
 pub mod RenewLemmas
 pub mod EditLemmas
+pub mod NoteLemmas

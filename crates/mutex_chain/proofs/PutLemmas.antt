@@ -37,7 +37,7 @@ place_among_within t (c ∷ cs) = by_test (nat_lt c.thread t) (place_among_withi
     by_test false h = omega arith
 
 -- each change is that of its own thread
-abbrev AreNamed : (ℕ → Option CurChange) → Type 0
+abbrev pub AreNamed : (ℕ → Option CurChange) → Type 0
 AreNamed f = (t : ℕ) (c : CurChange) → f t ≡ Some c → c.thread ≡ t
 
 -- a change of a thread before all others comes first
@@ -56,7 +56,7 @@ put_first f c a (suc n) named h = by_row (f a) refl (put_first f c (a + 1) n nam
         (le-ltb d.thread c.thread (omega arith))
 
 -- one change more among those of a range of threads
-put_some : (f g : ℕ → Option CurChange) (c : CurChange) (x a n : ℕ) → AreNamed f → c.thread ≡ x → a ≤ x → x < a + n → f x ≡ None → g x ≡ Some c
+pub put_some : (f g : ℕ → Option CurChange) (c : CurChange) (x a n : ℕ) → AreNamed f → c.thread ≡ x → a ≤ x → x < a + n → f x ≡ None → g x ≡ Some c
     → ((t : ℕ) → t ≢ x → f t ≡ g t) → put_change (Some c) (filter_map f (range_with_len a n)) ≡ filter_map g (range_with_len a n)
 put_some f g c x a zero named at low high none some same = absurd (omega arith)
 put_some f g c x a (suc n) named at low high none some same = by_place (cases_eq x a) (λ k. put_some f g c x (a + 1) n named at k (omega arith) none some same)
@@ -85,7 +85,7 @@ put_some f g c x a (suc n) named at low high none some same = by_place (cases_eq
         by_row (f a) refl (omega arith) (again (omega arith))
         ∙ ap (λ r. cons_option r (filter_map g (range_with_len (a + 1) n))) (same a (λ e. ne (sym e)))
 
-few : (f : ℕ → Option CurChange) (a n : ℕ) → length (filter_map f (range_with_len a n)) ≤ n
+pub few : (f : ℕ → Option CurChange) (a n : ℕ) → length (filter_map f (range_with_len a n)) ≤ n
 few f a zero = omega arith
 few f a (suc n) = by_row (f a) (few f (a + 1) n)
   where
@@ -94,7 +94,7 @@ few f a (suc n) = by_row (f a) (few f (a + 1) n)
     by_row (Some d) h = omega arith
 
 -- fewer than all, where one thread has none
-fewer : (f : ℕ → Option CurChange) (x a n : ℕ) → a ≤ x → x < a + n → f x ≡ None → length (filter_map f (range_with_len a n)) < n
+pub fewer : (f : ℕ → Option CurChange) (x a n : ℕ) → a ≤ x → x < a + n → f x ≡ None → length (filter_map f (range_with_len a n)) < n
 fewer f x a zero low high none = absurd (omega arith)
 fewer f x a (suc n) low high none = by_place (cases_eq x a) (λ k. fewer f x (a + 1) n k (omega arith) none)
   where

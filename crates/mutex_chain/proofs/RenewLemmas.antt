@@ -115,7 +115,7 @@ marking_step o olds numbers from count x s m ne =
     on y t e f (inl same) = inr (sym (ap (blocker_in o) same) ∙ f)
     on y t e f (inr other) = inl (still t (cases_eq t x) (m.on y t (sym (there y other) ∙ e) f))
 
-small_cur : (o : Ownership) (t : ℕ) → IsSound o → t < length o.members → cur_in o t ≤ 256
+pub small_cur : (o : Ownership) (t : ℕ) → IsSound o → t < length o.members → cur_in o t ≤ 256
 small_cur o t s h =
     let base : base_of (member_at o t) ≤ 256 = by_row (member_at o t) (All-get_or IsSmall o.members t None h s.small) in
     omega (arith, own_more o t h, fold_le (base_of (member_at o t)) (filter_map (λ mutex. slice_index_or o.ceilings mutex None) (owned_in o t)))
@@ -358,7 +358,7 @@ least_ends o numbers t below least h l = record { own = l.own; edges = λ x f. l
 
 -- the numbers that no walk marked are right already
 pub marking_rest : (o : Ownership) (olds numbers : List ℕ) (from : Option ℕ) (count : ℕ) (at : Option ℕ) → AreAside o olds from → IsMarking o olds numbers from count at
-    → ((t : ℕ) → at ≡ Some t → slice_index numbers t ≡ 257) → (t : ℕ) → t < length o.members → (slice_index olds t ≡ cur_in o t) ⊎ IsAhead o count from t
+    → ((t : ℕ) → at ≡ Some t → slice_index numbers t ≡ 257) → (t : ℕ) → t < length o.members → (slice_index numbers t ≡ 257) ⊎ (slice_index numbers t ≡ cur_in o t)
 marking_rest o olds numbers from count at a m end t h = by_mark (cases_eq (slice_index numbers t) 257)
   where
     stays : (u : ℕ) → (slice_index numbers u ≡ 257) ⊎ (at ≡ Some u) → slice_index numbers u ≡ 257
@@ -371,87 +371,6 @@ marking_rest o olds numbers from count at a m end t h = by_mark (cases_eq (slice
       on = λ x u e f. eq-eqb (slice_index numbers u) 257 (stays u (m.on x u (eqb-true (slice_index numbers x) 257 e) f));
     }
 
-    by_mark : (slice_index numbers t ≡ 257) ⊎ (slice_index numbers t ≢ 257) → (slice_index olds t ≡ cur_in o t) ⊎ IsAhead o count from t
-    by_mark (inl e) = inr (m.behind t e)
-    by_mark (inr ne) = inl (a.right (λ u. eqb (slice_index numbers u) 257) closed t h (ne_eqb (slice_index numbers t) 257 ne))
-
--- numbers of which the changes of so many threads of a chain are still to be listed
-pub record IsListing (o : Ownership) (olds numbers news : List ℕ) (left : ℕ) (at : Option ℕ) (out : List CurChange) : Type 0 where
-  pub places : length numbers ≡ length o.members
-  pub within : (t : ℕ) → at ≡ Some t → t < length o.members
-  pub mixed : (t : ℕ) → (slice_index numbers t ≡ slice_index olds t) ⊎ (slice_index numbers t ≡ slice_index news t)
-  pub along : (t : ℕ) → t < length o.members → (slice_index numbers t ≡ slice_index news t) ⊎ IsAhead o left at t
-  pub changes : out ≡ listed o olds numbers
-
-pub listing_begins : (o : Ownership) (olds news : List ℕ) (count : ℕ) (from : Option ℕ) → length olds ≡ length o.members → ((t : ℕ) → from ≡ Some t → t < length o.members)
-    → ((t : ℕ) → t < length o.members → (slice_index olds t ≡ slice_index news t) ⊎ IsAhead o count from t) → IsListing o olds olds news count from []
-listing_begins o olds news count from places within along = record { places = places; within = within; mixed = λ t. inl refl; along = along; changes = listed_same o olds }
-
--- there is room where a thread has a change
-pub listing_room : (o : Ownership) (olds numbers news : List ℕ) (left x : ℕ) (out : List CurChange) (c : CurChange) → IsListing o olds numbers news left (Some x) out
-    → changed_at o x (slice_index numbers x) (slice_index news x) ≡ Some c → length out < length o.members
-listing_room o olds numbers news left x out c l e = rw l.changes (by_case (l.mixed x))
-  where
-    by_case : (slice_index numbers x ≡ slice_index olds x) ⊎ (slice_index numbers x ≡ slice_index news x) → length (listed o olds numbers) < length o.members
-    by_case (inl still) = room_at o olds numbers x still (l.within x refl)
-    by_case (inr same) = absurd (none-some c (sym (same_none o x (slice_index news x)) ∙ sym (ap (λ a. changed_at o x a (slice_index news x)) same) ∙ e))
-
-set_same : (numbers : List ℕ) (x : ℕ) → slice_set numbers x (slice_index numbers x) ≡ numbers
-set_same [] x = refl
-set_same (n ∷ ns) zero = refl
-set_same (n ∷ ns) (suc x) = ap (λ l. n ∷ l) (set_same ns x)
-
-pub listing_step : (o : Ownership) (olds numbers news : List ℕ) (left x : ℕ) (out : List CurChange) → IsSound o → 0 < left → IsListing o olds numbers news left (Some x) out
-    → IsListing o olds (slice_set numbers x (slice_index news x)) news (left - 1) (blocker_in o x) (put_change (changed_at o x (slice_index numbers x) (slice_index news x)) out)
-listing_step o olds numbers news zero x out s h l = absurd (omega arith)
-listing_step o olds numbers news (suc left) x out s h l =
-    let one : suc left - 1 ≡ left = omega arith in
-    rw one (record {
-      places = length-set numbers x (slice_index news x) ∙ l.places;
-      within = λ t e. blocker_within o x t s e;
-      mixed = λ t. mixed t (cases_eq t x) (l.mixed t);
-      along = λ t k. along t (cases_eq t x) (l.along t k);
-      changes = changes (l.mixed x);
-    })
-  where
-    place : x < length numbers
-    place = omega (arith, l.places, l.within x refl)
-
-    here : (t : ℕ) → t ≡ x → get_or (slice_set numbers x (slice_index news x)) t 0 ≡ slice_index news t
-    here t e = ap (λ i. get_or (slice_set numbers x (slice_index news x)) i 0) e ∙ get_or-set_same numbers x (slice_index news x) 0 place ∙ sym (ap (slice_index news) e)
-
-    there : (t : ℕ) → t ≢ x → get_or (slice_set numbers x (slice_index news x)) t 0 ≡ slice_index numbers t
-    there t ne = get_or-set_other numbers x t (slice_index news x) 0 ne
-
-    mixed : (t : ℕ) → (t ≡ x) ⊎ (t ≢ x) → (slice_index numbers t ≡ slice_index olds t) ⊎ (slice_index numbers t ≡ slice_index news t)
-        → (get_or (slice_set numbers x (slice_index news x)) t 0 ≡ slice_index olds t) ⊎ (get_or (slice_set numbers x (slice_index news x)) t 0 ≡ slice_index news t)
-    mixed t (inl e) w = inr (here t e)
-    mixed t (inr ne) (inl e) = inl (there t ne ∙ e)
-    mixed t (inr ne) (inr e) = inr (there t ne ∙ e)
-
-    along : (t : ℕ) → (t ≡ x) ⊎ (t ≢ x) → (slice_index numbers t ≡ slice_index news t) ⊎ ((x ≡ t) ⊎ IsAhead o left (blocker_in o x) t)
-        → (get_or (slice_set numbers x (slice_index news x)) t 0 ≡ slice_index news t) ⊎ IsAhead o left (blocker_in o x) t
-    along t (inl e) w = inl (here t e)
-    along t (inr ne) (inl e) = inl (there t ne ∙ e)
-    along t (inr ne) (inr (inl e)) = absurd (ne (sym e))
-    along t (inr ne) (inr (inr a)) = inr a
-
-    changes : (slice_index numbers x ≡ slice_index olds x) ⊎ (slice_index numbers x ≡ slice_index news x)
-        → put_change (changed_at o x (slice_index numbers x) (slice_index news x)) out ≡ listed o olds (slice_set numbers x (slice_index news x))
-    changes (inl still) = ap (put_change (changed_at o x (slice_index numbers x) (slice_index news x))) l.changes ∙ put_at o olds numbers x (slice_index news x) still (l.within x refl) l.places
-    changes (inr same) =
-        ap (λ a. put_change (changed_at o x a (slice_index news x)) out) same
-        ∙ ap (λ c. put_change c out) (same_none o x (slice_index news x))
-        ∙ l.changes
-        ∙ sym (ap (listed o olds) (set_same numbers x))
-        ∙ ap (λ a. listed o olds (slice_set numbers x a)) same
-
--- all is listed
-pub listing_ends : (o : Ownership) (olds numbers news : List ℕ) (left : ℕ) (at : Option ℕ) (out : List CurChange) → IsListing o olds numbers news left at out → (left ≡ 0) ⊎ (at ≡ None)
-    → out ≡ listed o olds news
-listing_ends o olds numbers news left at out l end =
-    l.changes ∙ filter_map_range (listed_at o olds numbers) (listed_at o olds news) 0 (length o.members) (λ t low high. ap (changed_at o t (slice_index olds t)) (same t (l.along t (omega arith))))
-  where
-    same : (t : ℕ) → (slice_index numbers t ≡ slice_index news t) ⊎ IsAhead o left at t → slice_index numbers t ≡ slice_index news t
-    same t (inl e) = e
-    same t (inr a) = absurd (nobody_left o left at t end a)
+    by_mark : (slice_index numbers t ≡ 257) ⊎ (slice_index numbers t ≢ 257) → (slice_index numbers t ≡ 257) ⊎ (slice_index numbers t ≡ cur_in o t)
+    by_mark (inl e) = inl e
+    by_mark (inr ne) = ⊎_elim inl (λ e. inr (e ∙ a.right (λ u. eqb (slice_index numbers u) 257) closed t h (ne_eqb (slice_index numbers t) 257 ne))) (m.kept t)

@@ -4,3 +4,4 @@ pub mod Graph
 pub mod Equations
 pub mod Raising
 pub mod Renewing
+pub mod Noting

@@ -39,10 +39,9 @@ abbrev pub meets : ℕ → (ℕ → Option ℕ) → ℕ → ℕ → Bool
 meets zero next t u = false
 meets (suc n) next t u = meets_on (λ v. meets n next v u) u (next t)
 
--- sound tables, in which awaited mutexes have owners, with the current priorities of all threads, and as many places for those before an edit
-pub record IsCurrent (o : Ownership) (numbers others : List ℕ) : Type 0 where
+-- sound tables, in which awaited mutexes have owners, with the current priorities of all threads
+pub record IsCurrent (o : Ownership) (numbers : List ℕ) : Type 0 where
   pub sound : IsSound o
   pub owned : AreOwned o
   pub curs : numbers ≡ curs_of o
   pub places : length numbers ≡ length o.members
-  pub before : length others ≡ length o.members

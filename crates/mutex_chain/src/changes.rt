@@ -1,6 +1,12 @@
-ghost use Rattle.std.specs.Prelude.{◌≡◌, ◌<◌, ◌∷◌, ◌++◌, [], Some, length, IfOk};
-ghost use Rattle.mutex_chain.specs.Raising.{place_among, put_change};
+ghost use Rattle.std.specs.Prelude.{ℕ, ◌≡◌, ◌<◌, ◌≤◌, [], length, map, min, not, ◌==◌, slice_get, vec_capacity, IfOk};
+ghost use Rattle.rt_plain.specs.kernel.Ownership.{Ownership, changes};
+ghost use Rattle.mutex_chain.specs.Graph.{Keeps};
+ghost use Rattle.mutex_chain.specs.Owners.{IsSound};
+ghost use Rattle.mutex_chain.specs.Walks.{curs_of};
+ghost use Rattle.mutex_chain.specs.Raising.{place_among};
+ghost use Rattle.mutex_chain.specs.Noting.{AreNotes, note_of, is_note_of, with_note, settled_note};
 
+use crate::owners::Owners;
 use rt_base::{Prio, ThreadNo};
 use std::alloc::{AllocError, Global};
 use std::marker::Model;
@@ -65,22 +71,96 @@ impl Changes {
         self.changes.clear();
     }
 
-    // One more at the end.
-    pub(crate) fn push(&mut self, change: Change)
-        requires { length self.old.changes < self.old.threads }
-        ensures { self.new ≡ record self.old { changes = self.old.changes ++ change ∷ [] } }
+    // Notes the number that a thread had, unless it has a note already.
+    pub(crate) fn note(&mut self, thread: ThreadNo, old: u16)
+        requires { length (with_note thread old self.old.changes) ≤ self.old.threads }
+        ensures { self.new ≡ record self.old { changes = with_note thread old self.old.changes } }
     {
-        self.changes.push_reserved(change);
+        let place = place_among(thread, self.changes.as_slice());
+        if has_note(thread, self.changes.as_slice(), place) {
+            return;
+        }
+        let _ = self.changes.insert(place, Change::note_of(thread, old));
     }
 
-    // One more at its place by thread.
-    pub(crate) fn put(&mut self, change: Change)
-        requires { length self.old.changes < self.old.threads }
-        ensures { self.new ≡ record self.old { changes = put_change (Some change) self.old.changes } }
+    // Gives each note the number of now, and drops those of threads that are gone or have the same one.
+    pub(crate) fn settle(&mut self, owners: &Owners, numbers: &[u16])
+        requires sound { IsSound owners.now }
+        requires numbers { numbers.now ≡ curs_of owners.now }
+        ensures changes { (o : Ownership) → IsSound o → Keeps o owners.now →
+            AreNotes (curs_of o) numbers.now self.old.changes →
+            self.new ≡ record self.old { changes = changes o owners.now } }
+        ensures room { self.new.threads ≡ self.old.threads }
     {
-        let place = place_among(change.thread, self.changes.as_slice());
-        let _ = self.changes.insert(place, change);
+        renew_notes(owners, numbers, &mut self.changes);
+        self.changes.retain(|change| change.is_change());
     }
+}
+
+impl Change {
+    // The note of a thread.
+    fn note_of(thread: ThreadNo, old: u16) -> Change
+        ensures { result ≡ note_of thread old }
+    {
+        let old = number(old);
+        Change {
+            thread,
+            old,
+            new: old,
+        }
+    }
+
+    // Whether its numbers differ.
+    fn is_change(&self) -> bool
+        ensures { result ≡ not (self.now.old == self.now.new) }
+    {
+        self.old.0 != self.new.0
+    }
+
+    // The note with the number of now, where the thread is there.
+    fn settled(&self, owners: &Owners, numbers: &[u16]) -> Change
+        requires { length numbers.now ≡ length owners.now.members }
+        ensures { result ≡ settled_note owners.now numbers.now self.now }
+    {
+        let place = self.thread.0 as usize;
+        if place >= numbers.len() || !owners.has(self.thread) {
+            return *self;
+        }
+        Change {
+            thread: self.thread,
+            old: self.old,
+            new: number(numbers[place]),
+        }
+    }
+}
+
+// Gives each note the number of now.
+fn renew_notes(owners: &Owners, numbers: &[u16], notes: &mut Vec<Change>)
+    requires { length numbers.now ≡ length owners.now.members }
+    ensures notes { notes.new.items ≡ map (settled_note owners.now numbers.now) notes.old.items }
+    ensures room { vec_capacity notes.new ≡ vec_capacity notes.old }
+{
+    for i in 0..notes.len() {
+        let note = notes[i].settled(owners, numbers);
+        notes[i] = note;
+    }
+}
+
+// Whether the note of a thread stands at a place.
+fn has_note(thread: ThreadNo, notes: &[Change], place: usize) -> bool
+    ensures { result ≡ is_note_of thread (slice_get notes.now place) }
+{
+    match notes.get(place) {
+        None => false,
+        Some(note) => note.thread.0 == thread.0,
+    }
+}
+
+// A number as a priority. That of a thread which is there fits.
+pub fn number(cur: u16) -> Prio
+    ensures { result ≡ min cur 255 }
+{
+    Prio(cur.min(255) as u8)
 }
 
 // Where the change of a thread belongs in a list in thread order.

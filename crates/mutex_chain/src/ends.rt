@@ -1,10 +1,11 @@
 ghost use Rattle.std.specs.Prelude.{ℕ, ◌≡◌, ◌<◌, ◌≤◌, List, Some, false, length, map, All, IfSome};
 ghost use Rattle.std.specs.List.{filter_map};
-ghost use Rattle.rt_plain.specs.kernel.Ownership.{first_in, leave_edit, leave_edits, owned_in, owner_in, pass_edit_to, pass_edits, passes_from, waiters_in};
+ghost use Rattle.rt_plain.specs.kernel.Ownership.{first_in, kill_thread_edit, leave_edit, leave_edits, owned_in, owner_in, pass_edit_to, pass_edits, passes_from, passes_of, waiters_in};
 ghost use Rattle.mutex_chain.specs.Graph.{pair_of, place_of, row_in};
 ghost use Rattle.mutex_chain.specs.Owners.{IsSound, has_thread};
 ghost use Rattle.mutex_chain.specs.Renewing.{AreAside};
 ghost use Rattle.mutex_chain.specs.Walks.{curs_of};
+ghost use Rattle.mutex_chain.specs.Noting.{AreNotes, AreSmall, HasSmallNotes};
 
 use crate::changes::Changes;
 use crate::curs::first_waiter;
@@ -96,6 +97,7 @@ pub fn hand_on<L: Ledger>(
     out: &mut Changes,
     steps: &mut Steps<L>,
 )
+    requires notes { HasSmallNotes (length owners.old.members) curs.old.items out.old.changes }
     requires curs { curs.old.items ≡ curs_of owners.old }
     requires mutex { mutex < length owners.old.ceilings }
     requires owner { owner_in owners.old mutex ≡ Some thread }
@@ -109,6 +111,8 @@ pub fn hand_on<L: Ledger>(
     ensures curs { curs.new.items ≡ curs_of owners.new }
     ensures numbers { length curs.new.items ≡ length owners.new.members }
     ensures room { out.new.threads ≡ out.old.threads }
+    ensures notes { (olds : List ℕ) → AreSmall olds → AreNotes olds curs.old.items out.old.changes →
+        AreNotes olds curs.new.items out.new.changes }
 {
     owners.know_sound();
     owners.free(mutex);
@@ -121,8 +125,8 @@ pub fn hand_on<L: Ledger>(
     }
 }
 
-// Gives back the mutexes of a thread that is gone, the last got first, each to who is the first waiter then.
-pub fn give_back<L: Ledger>(
+// A thread ends: it waits no more, and gives back its mutexes.
+pub fn end_thread<L: Ledger>(
     owners: &mut Owners,
     curs: &mut Vec<u16>,
     thread: ThreadNo,
@@ -130,6 +134,41 @@ pub fn give_back<L: Ledger>(
     out: &mut Changes,
     steps: &mut Steps<L>,
 )
+    requires notes { HasSmallNotes (length owners.old.members) curs.old.items out.old.changes }
+    requires thread { thread < length owners.old.members }
+    requires curs { curs.old.items ≡ curs_of owners.old }
+    requires room { length owners.old.members ≤ passes.old.threads }
+    requires changes { length owners.old.members ≤ out.old.threads }
+    ensures owners { owners.new ≡ kill_thread_edit thread owners.old }
+    ensures sound { IsSound owners.new }
+    ensures places { length owners.new.members ≡ length owners.old.members }
+    ensures mutexes { length owners.new.ceilings ≡ length owners.old.ceilings }
+    ensures curs { curs.new.items ≡ curs_of owners.new }
+    ensures numbers { length curs.new.items ≡ length owners.new.members }
+    ensures room { out.new.threads ≡ out.old.threads }
+    ensures notes { (olds : List ℕ) → AreSmall olds → AreNotes olds curs.old.items out.old.changes →
+        AreNotes olds curs.new.items out.new.changes }
+    ensures passes { passes.new ≡ record passes.old { passes = map pair_of (passes_of thread owners.old) } }
+{
+    let owner = end_wait(owners, thread);
+    renew_chain(owners, curs, &owner, out, steps);
+    owners.set_member(thread, None);
+    owners.know_sound();
+    let gone = Some(thread);
+    renew_chain(owners, curs, &gone, out, steps);
+    give_back(owners, curs, thread, passes, out, steps);
+}
+
+// Gives back the mutexes of a thread that is gone, the last got first, each to who is the first waiter then.
+fn give_back<L: Ledger>(
+    owners: &mut Owners,
+    curs: &mut Vec<u16>,
+    thread: ThreadNo,
+    passes: &mut Passes,
+    out: &mut Changes,
+    steps: &mut Steps<L>,
+)
+    requires notes { HasSmallNotes (length owners.old.members) curs.old.items out.old.changes }
     requires gone { has_thread owners.old thread ≡ false }
     requires curs { curs.old.items ≡ curs_of owners.old }
     requires sound { IsSound owners.old }
@@ -141,6 +180,8 @@ pub fn give_back<L: Ledger>(
     ensures mutexes { length owners.new.ceilings ≡ length owners.old.ceilings }
     ensures curs { curs.new.items ≡ curs_of owners.new }
     ensures room { out.new.threads ≡ out.old.threads }
+    ensures notes { (olds : List ℕ) → AreSmall olds → AreNotes olds curs.old.items out.old.changes →
+        AreNotes olds curs.new.items out.new.changes }
     ensures passes { passes.new ≡ record passes.old {
       passes =
           map pair_of (filter_map (λ p. p) (passes_from (owned_in owners.old thread) owners.old));

@@ -7,13 +7,12 @@ ghost use Rattle.mutex_chain.specs.Equations.{IsOnce};
 ghost use Rattle.mutex_chain.specs.Owners.{AreOwned, has_thread, has_mutex, ceiling_at};
 
 use crate::answers::{Released, Took};
-use crate::changes::Changes;
-use crate::curs::{compute, count_waiters, first_waiter, list_changes, number, renew};
-use crate::ends::{end_wait, give_back, hand_on, leave_all, list_waiters};
+use crate::changes::{Changes, number};
+use crate::curs::{compute, count_waiters, first_waiter, renew};
+use crate::ends::{end_thread, end_wait, hand_on, leave_all, list_waiters};
 use crate::owners::Owners;
 use crate::passes::Passes;
 use crate::raising::strengthen;
-use crate::renewing::renew_chain;
 use crate::rows::{MemberRow, WaitRow};
 use crate::woken::Woken;
 use rt_base::{ObjNo, Prio, Steps, ThreadNo};
@@ -40,7 +39,6 @@ use std::sync::ledger::Ledger;
 pub struct MutexGraph {
     owners: Owners,
     curs: Vec<u16>,
-    before: Vec<u16>,
 }
 
 impl Model for MutexGraph {
@@ -51,7 +49,7 @@ impl Model for MutexGraph {
 
     ghost view = { λ g. g.owners };
 
-    ghost invariant = { λ g. IsCurrent g.owners g.curs.items g.before.items };
+    ghost invariant = { λ g. IsCurrent g.owners g.curs.items };
 }
 
 impl MutexGraph {
@@ -61,13 +59,8 @@ impl MutexGraph {
     {
         let owners = Owners::new(alloc, threads, mutexes)?;
         let mut curs = vec![in alloc; 0; threads as usize]?;
-        let before = vec![in alloc; 0; threads as usize]?;
         compute(&owners, &mut curs);
-        Ok(MutexGraph {
-            owners,
-            curs,
-            before,
-        })
+        Ok(MutexGraph { owners, curs })
     }
 
     /// A thread that isn't there comes, with its base. It waits on no mutex.
@@ -114,14 +107,7 @@ impl MutexGraph {
         self.owners.set_base(thread, base);
         self.owners.know_sound();
         if number > old {
-            renew(
-                &self.owners,
-                &mut self.curs,
-                &mut self.before,
-                Some(thread),
-                out,
-                steps,
-            );
+            renew(&self.owners, &mut self.curs, Some(thread), out, steps);
             return;
         }
         strengthen(
@@ -159,14 +145,7 @@ impl MutexGraph {
         steps.tick();
         let owner = self.owners.holder(mutex);
         if ceiling.0 > old.0 {
-            renew(
-                &self.owners,
-                &mut self.curs,
-                &mut self.before,
-                owner,
-                out,
-                steps,
-            );
+            renew(&self.owners, &mut self.curs, owner, out, steps);
             return old;
         }
         strengthen(
@@ -251,14 +230,7 @@ impl MutexGraph {
     {
         steps.tick();
         let owner = end_wait(&mut self.owners, thread);
-        renew(
-            &self.owners,
-            &mut self.curs,
-            &mut self.before,
-            owner,
-            out,
-            steps,
-        );
+        renew(&self.owners, &mut self.curs, owner, out, steps);
     }
 
     /// A thread releases a mutex: its owner holds it once less, and at the last time it passes to the
@@ -288,7 +260,7 @@ impl MutexGraph {
             strengthen(&self.owners, &mut self.curs, None, 0, out, steps);
             return released;
         }
-        self.before.copy_from_slice(&self.curs);
+        out.clear();
         let first = first_waiter(&self.owners, &self.curs, mutex);
         hand_on(
             &mut self.owners,
@@ -299,7 +271,7 @@ impl MutexGraph {
             out,
             steps,
         );
-        list_changes(&self.owners, &self.before, &self.curs, out);
+        out.settle(&self.owners, &self.curs);
         match first {
             None => Released::Free,
             Some(waiter) => Released::Passed(waiter),
@@ -330,14 +302,7 @@ impl MutexGraph {
         leave_all(&mut self.owners, woken.as_slice());
         self.owners.set_ceiling(mutex, None);
         self.owners.know_sound();
-        renew(
-            &self.owners,
-            &mut self.curs,
-            &mut self.before,
-            owner,
-            out,
-            steps,
-        );
+        renew(&self.owners, &mut self.curs, owner, out, steps);
     }
 
     /// A thread ends: it leaves its wait, and then gives back its mutexes, the last got first, each to
@@ -359,14 +324,10 @@ impl MutexGraph {
         ensures changes { out.new ≡ record out.old { changes = changes self.old self.new } }
     {
         steps.tick();
-        self.before.copy_from_slice(&self.curs);
-        let owner = end_wait(&mut self.owners, thread);
-        renew_chain(&self.owners, &mut self.curs, &owner, out, steps);
-        self.owners.set_member(thread, None);
+        out.clear();
         self.owners.know_sound();
-        renew_chain(&self.owners, &mut self.curs, &Some(thread), out, steps);
-        give_back(&mut self.owners, &mut self.curs, thread, passes, out, steps);
-        list_changes(&self.owners, &self.before, &self.curs, out);
+        end_thread(&mut self.owners, &mut self.curs, thread, passes, out, steps);
+        out.settle(&self.owners, &self.curs);
     }
 
     /// Whether a thread is there.
@@ -391,14 +352,9 @@ impl MutexGraph {
         ensures owned { AreOwned self.now }
     {
         // Each field with its type: a further one doesn't compile before it is named here too.
-        let MutexGraph {
-            owners,
-            curs,
-            before,
-        } = self;
+        let MutexGraph { owners, curs } = self;
         let _: &Owners = owners;
         let _: &Vec<u16> = curs;
-        let _: &Vec<u16> = before;
     }
 
     /// The current priority of a thread.

@@ -1,12 +1,13 @@
-ghost use Rattle.std.specs.Prelude.{ℕ, ◌≡◌, ◌⊎◌, ◌<◌, ◌≤◌, length, slice_index};
+ghost use Rattle.std.specs.Prelude.{ℕ, ◌≡◌, ◌⊎◌, ◌<◌, ◌≤◌, List, length, slice_index};
 ghost use Rattle.rt_plain.specs.kernel.Ownership.{cur_in};
 ghost use Rattle.mutex_chain.specs.Owners.{IsSound};
-ghost use Rattle.mutex_chain.specs.Renewing.{AreAside, IsAhead, IsLeast, IsRenewing};
+ghost use Rattle.mutex_chain.specs.Renewing.{AreAside, IsLeast, IsRenewing};
 ghost use Rattle.mutex_chain.specs.Walks.{curs_of};
+ghost use Rattle.mutex_chain.specs.Noting.{AreNotes, AreSmall, HasNotes, HasSmallNotes};
 
 use crate::changes::Changes;
 use crate::owners::Owners;
-use crate::raising::strengthen;
+use crate::raising::carry_round;
 use rt_base::{Steps, ThreadNo};
 use std::sync::ledger::Ledger;
 
@@ -16,43 +17,55 @@ const MARK: u16 = 257;
 // Computes the numbers along a thread's chain of owners anew, where all others are right. A first walk marks
 // the chain, round its ring if it ends in one. A second takes the least number of each thread, at which a
 // marked waiter doesn't count. So round a ring the last one has the least of all, and a third walk carries
-// it on. The answer is how many threads of the chain were marked: no other number changed.
+// it on. The numbers before of all marked threads are noted.
 pub fn renew_chain<L: Ledger>(
     owners: &Owners,
     curs: &mut Vec<u16>,
     from: &Option<ThreadNo>,
     out: &mut Changes,
     steps: &mut Steps<L>,
-) -> u16
+)
     requires aside { AreAside owners.now curs.old.items from.now }
     requires sound { IsSound owners.now }
     requires room { length owners.now.members ≤ out.old.threads }
+    requires notes { HasSmallNotes (length owners.now.members) curs.old.items out.old.changes }
     ensures curs { curs.new.items ≡ curs_of owners.now }
     ensures places { length curs.new.items ≡ length owners.now.members }
     ensures room { out.new.threads ≡ out.old.threads }
-    ensures along { (t : ℕ) → t < length owners.now.members →
-        (slice_index curs.old.items t ≡ slice_index curs.new.items t) ⊎ IsAhead owners.now result from.now t }
+    ensures notes { (olds : List ℕ) → AreSmall olds → AreNotes olds curs.old.items out.old.changes →
+        AreNotes olds curs.new.items out.new.changes }
 {
-    let count = mark_chain(owners, curs, from);
-    renew_marked(owners, curs, from, count, out, steps);
-    count
+    let count = mark_chain(owners, curs, from, out);
+    renew_marked(owners, curs, from, count, steps);
 }
 
-// Marks the threads along a chain. The answer is how many they are.
-fn mark_chain(owners: &Owners, numbers: &mut Vec<u16>, from: &Option<ThreadNo>) -> u16
+// Marks the threads along a chain, and notes their numbers before. The answer is how many they are.
+fn mark_chain(
+    owners: &Owners,
+    numbers: &mut Vec<u16>,
+    from: &Option<ThreadNo>,
+    out: &mut Changes,
+) -> u16
     requires aside { AreAside owners.now numbers.old.items from.now }
     requires sound { IsSound owners.now }
+    requires room { length owners.now.members ≤ out.old.threads }
+    requires notes { HasNotes (length owners.now.members) numbers.old.items out.old.changes }
     ensures renewing { IsRenewing owners.now numbers.new.items result from.now 257 }
+    ensures room { out.new.threads ≡ out.old.threads }
+    ensures notes { (olds : List ℕ) → AreNotes olds numbers.old.items out.old.changes →
+        AreNotes olds numbers.new.items out.new.changes }
     ensures rest { (t : ℕ) → t < length owners.now.members →
-        (slice_index numbers.old.items t ≡ cur_in owners.now t) ⊎ IsAhead owners.now result from.now t }
+        (slice_index numbers.new.items t ≡ 257) ⊎ (slice_index numbers.new.items t ≡ cur_in owners.now t) }
 {
     let mut count = 0;
     let mut at = *from;
     while let Some(thread) = at {
         let place = thread.0 as usize;
-        if numbers[place] == MARK {
+        let old = numbers[place];
+        if old == MARK {
             break;
         }
+        out.note(thread, old);
         numbers[place] = MARK;
         count += 1;
         at = owners.blocker(thread);
@@ -66,15 +79,12 @@ fn renew_marked<L: Ledger>(
     curs: &mut Vec<u16>,
     from: &Option<ThreadNo>,
     count: u16,
-    out: &mut Changes,
     steps: &mut Steps<L>,
 )
     requires renewing { IsRenewing owners.now curs.old.items count from.now 257 }
     requires sound { IsSound owners.now }
-    requires room { length owners.now.members ≤ out.old.threads }
     ensures curs { curs.new.items ≡ curs_of owners.now }
     ensures places { length curs.new.items ≡ length owners.now.members }
-    ensures room { out.new.threads ≡ out.old.threads }
 {
     let mut left = count;
     let mut at = *from;
@@ -88,7 +98,7 @@ fn renew_marked<L: Ledger>(
         curs[thread.0 as usize] = number;
         at = owners.blocker(thread);
     }
-    strengthen(owners, curs, at, number, out, steps);
+    carry_round(owners, curs, at, number, steps);
 }
 
 // The least of a thread's own urgency and the numbers of those that wait for it.

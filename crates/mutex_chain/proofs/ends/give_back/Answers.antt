@@ -1,5 +1,6 @@
 use Rattle.std.proofs.Common.{arith, ◌≡◌, ◌∙◌, sym, ap, refl, length}
 use Rattle.mutex_chain.proofs.CurLemmas.{length-curs}
+use Rattle.mutex_chain.proofs.NoteLemmas.{small_on}
 use Rattle.mutex_chain.proofs.EditLemmas.{first_owner}
 use Rattle.mutex_chain.proofs.PassLemmas.{begins, room_for_pass, passes_on, fewer_owned}
 use Rattle.mutex_chain.proofs.ends.give_back.Goals as goal
@@ -26,8 +27,12 @@ loop-mutex-preserved g c =
       c.hand_on.ensures.curs,
       c.hand_on.ensures.sound,
       c.hand_on.ensures.room ∙ c.loop-mutex.invariant.3,
+      (λ olds small a. c.hand_on.ensures.notes olds small (c.loop-mutex.invariant.4 olds small a)),
     )
 
 pub loop-mutex-init : goal.loop-mutex-init
 loop-mutex-init g c =
-    (rw c.clear.ensures (begins c.args.thread c.args.owners.now c.args.curs.now.items c.args.passes.now c.requires.gone (ap length c.requires.curs ∙ length-curs c.args.owners.now)), c.requires.curs, c.requires.sound, refl)
+    (rw c.clear.ensures (begins c.args.thread c.args.owners.now c.args.curs.now.items c.args.passes.now c.requires.gone (ap length c.requires.curs ∙ length-curs c.args.owners.now)), c.requires.curs, c.requires.sound, refl, (λ olds small a. a))
+
+pub hand_on-requires-clause-notes : goal.hand_on-requires-clause-notes
+hand_on-requires-clause-notes g c = small_on _ _ _ _ _ _ c.loop-mutex.invariant.0.size c.requires.notes c.loop-mutex.invariant.4

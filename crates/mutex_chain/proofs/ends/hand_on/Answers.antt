@@ -1,6 +1,7 @@
-use Rattle.std.proofs.Common.{◌≡◌, ◌∙◌, sym, ap, Some}
-use Rattle.rt_plain.specs.kernel.Ownership.{first_in, pass_edit_to, with_mutex_free}
+use Rattle.std.proofs.Common.{ℕ, List, arith, ◌≡◌, ◌∙◌, sym, ap, length, Some}
+use Rattle.rt_plain.specs.kernel.Ownership.{Ownership, first_in, pass_edit_to, with_mutex_free}
 use Rattle.mutex_chain.specs.Renewing.{DiffersAt}
+use Rattle.mutex_chain.proofs.NoteLemmas.{small_on}
 use Rattle.mutex_chain.proofs.EditLemmas.{aside_by, differs_free, got_aside, passed_free}
 use Rattle.mutex_chain.proofs.ends.hand_on.Goals as goal
 
@@ -19,3 +20,16 @@ pub returns-in-Some-clause-owners : goal.returns-in-Some-clause-owners
 returns-in-Some-clause-owners g c =
     c.pass.ensures.edit ∙ ap (pass_edit_to c.args.mutex (Some c.in-Some.waiter)) c.free.ensures ∙ passed_free c.args.owners.now c.args.mutex c.in-Some.waiter
     ∙ sym (ap (λ r. pass_edit_to c.args.mutex r c.args.owners.now) c.in-Some.is)
+
+pub renew_chain-requires-clause-notes : goal.renew_chain-requires-clause-notes
+renew_chain-requires-clause-notes g c =
+    let size : length c.free.new.self.members ≡ length c.args.owners.now.members = ap (λ (q : Ownership). length q.members) c.free.ensures in
+    rw size c.requires.notes
+
+pub renew_chain-requires-in-Some-clause-notes : goal.renew_chain-requires-in-Some-clause-notes
+renew_chain-requires-in-Some-clause-notes g c =
+    let size : length c.pass.new.self.members ≡ length c.args.owners.now.members = c.pass.ensures.threads ∙ ap (λ (q : Ownership). length q.members) c.free.ensures in
+    small_on _ _ _ _ _ _ size c.requires.notes c.renew_chain.ensures.notes
+
+pub returns-in-Some-clause-notes : goal.returns-in-Some-clause-notes
+returns-in-Some-clause-notes g c = λ olds small a. c.renew_chain-in-Some.ensures.notes olds small (c.renew_chain.ensures.notes olds small a)

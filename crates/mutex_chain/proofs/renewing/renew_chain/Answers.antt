@@ -1,10 +1,20 @@
-use Rattle.std.proofs.Common.{◌≡◌, ◌∙◌, sym, ap, inl, inr, ⊎_elim}
+use Rattle.std.proofs.Common.{arith, ◌≡◌, ◌<◌, ◌∙◌, sym, ap, inl, inr, ⊎_elim, length}
 use Rattle.std.specs.Prelude.{slice_index}
 use Rattle.rt_plain.specs.kernel.Ownership.{cur_in}
+use Rattle.mutex_chain.specs.Noting.{AreNotes}
 use Rattle.mutex_chain.proofs.CurLemmas.{cur_at}
+use Rattle.mutex_chain.proofs.NoteLemmas.{notes_same}
 use Rattle.mutex_chain.proofs.renewing.renew_chain.Goals as goal
 
-pub returns-clause-along : goal.returns-clause-along
-returns-clause-along g c = λ t h.
-    let now : slice_index c.renew_marked.new.curs.items t ≡ cur_in c.args.owners.now t = ap (λ ns. slice_index ns t) c.renew_marked.ensures.curs ∙ cur_at c.args.owners.now t h in
-    ⊎_elim (λ e. inl (e ∙ sym now)) inr (c.mark_chain-count.ensures.rest t h)
+pub mark_chain-count-requires-clause-notes : goal.mark_chain-count-requires-clause-notes
+mark_chain-count-requires-clause-notes g c = record { olds = c.requires.notes.olds; places = c.requires.notes.places; are = c.requires.notes.are }
+
+pub returns-clause-notes : goal.returns-clause-notes
+returns-clause-notes g c = λ olds small a.
+    let marked : AreNotes olds c.mark_chain-count.new.numbers.items c.mark_chain-count.new.out.changes = c.mark_chain-count.ensures.notes olds a in
+    let long : length c.mark_chain-count.new.numbers.items ≡ length c.args.owners.now.members = c.mark_chain-count.ensures.renewing.places in
+    notes_same olds c.mark_chain-count.new.numbers.items c.renew_marked.new.curs.items c.mark_chain-count.new.out.changes marked small (c.renew_marked.ensures.places ∙ sym long)
+    (λ t h.
+    let within : t < length c.args.owners.now.members = omega (arith, marked.places, long) in
+    let now : slice_index c.renew_marked.new.curs.items t ≡ cur_in c.args.owners.now t = ap (λ ns. slice_index ns t) c.renew_marked.ensures.curs ∙ cur_at c.args.owners.now t within in
+    ⊎_elim inl (λ e. inr (e ∙ sym now)) (c.mark_chain-count.ensures.rest t within))

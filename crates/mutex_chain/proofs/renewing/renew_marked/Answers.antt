@@ -20,8 +20,8 @@ loop-left-preserved g c =
     rw (c.blocker-at.ensures.owner, c.thread.view_is)
     (renewing_on c.args.owners.now c.loop-left.curs.items c.loop-left.left c.in-Some.thread c.loop-left.number c.least_number-number.result c.requires.sound (omega (arith, c.loop-left-test.true)) renewing least)
 
-pub strengthen-requires-clause-raising : goal.strengthen-requires-clause-raising
-strengthen-requires-clause-raising g c =
+pub carry_round-requires-clause-raising : goal.carry_round-requires-clause-raising
+carry_round-requires-clause-raising g c =
     renewing_ends c.args.owners.now c.loop-left.curs.items c.loop-left.left c.loop-left.at c.loop-left.number c.loop-left.invariant
     (elim c.loop-left-test.branch [
       | else-loop-left-test w ↦ inl (omega (arith, w.loop-left-test.false))

@@ -26,7 +26,6 @@ invariant_of-self g c =
       owned = rw (c.set_ceiling.ensures, c.leave_all.ensures.edits, line, c.free.ensures) (owned_mutex_end o c.args.mutex c.self.invariant.owned);
       curs = c.renew.ensures.curs;
       places = c.renew.ensures.places;
-      before = c.renew.ensures.before;
     }
 
 pub renew-requires-clause-aside : goal.renew-requires-clause-aside

@@ -10,5 +10,4 @@ invariant_of-self g c = record {
   owned = rw c.end_wait-owner.ensures.owners (owned_leave c.self.inside.owners c.args.thread c.self.invariant.owned);
   curs = c.renew.ensures.curs;
   places = c.renew.ensures.places;
-  before = c.renew.ensures.before;
 }

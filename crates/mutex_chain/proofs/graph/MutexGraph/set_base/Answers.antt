@@ -40,8 +40,4 @@ invariant_of-self-2 g c = record {
   owned = rw c.set_base.ensures (owned_base c.self.inside.owners c.args.thread c.args.base c.self.invariant.owned);
   curs = c.strengthen.ensures.curs;
   places = c.strengthen.ensures.places;
-  before =
-      let size : length c.set_base.new.self.members ≡ length c.self.inside.owners.members =
-      ap (λ (q : Ownership). length q.members) c.set_base.ensures ∙ length-set c.self.inside.owners.members c.args.thread (option_map (with_base c.args.base) (member_at c.self.inside.owners c.args.thread)) in
-      c.self.invariant.before ∙ sym size;
 }

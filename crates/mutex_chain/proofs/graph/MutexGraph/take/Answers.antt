@@ -26,7 +26,6 @@ invariant_of-self g c = record {
   owned = rw c.take-took.ensures.edit (owned_take c.self.inside.owners c.args.thread c.args.mutex c.self.invariant.owned);
   curs = c.strengthen.ensures.curs;
   places = c.strengthen.ensures.places;
-  before = c.self.invariant.before ∙ sym c.take-took.ensures.threads;
 }
 
 pub returns-clause-cost : goal.returns-clause-cost
