@@ -1,32 +1,11 @@
 -- Changes that are put in by thread.
-use Rattle.std.proofs.Common.{ℕ, ◌≡◌, ◌≢◌, ◌+◌, ◌<◌, ◌≤◌, zero, suc, List, [], ◌∷◌, length, get_or, Bool, true, false, not, cond, ◌&&◌, eqb, Option, Some, None, refl, sym, ap, ◌∙◌, arith, ◌⊎◌, inl, inr, get_or-set_same, get_or-set_other}
-use Rattle.std.specs.Prelude.{slice_set, slice_index, min, nat_lt}
+use Rattle.std.proofs.Common.{ℕ, ◌≡◌, ◌≢◌, ◌+◌, ◌<◌, ◌≤◌, zero, suc, List, [], ◌∷◌, length, Bool, true, false, cond, Option, Some, None, refl, sym, ap, ◌∙◌, arith, ◌⊎◌, inl, inr}
+use Rattle.std.specs.Prelude.{nat_lt}
 use Rattle.std.specs.List.{filter_map, range_with_len, cons_option, insert}
-use Rattle.std.proofs.lemmas.Bool.{cases_eq, eq-eqb, lt-ltb, le-ltb, false≢true}
-use Rattle.rt_plain.specs.kernel.Ownership.{Ownership, CurChange}
-use Rattle.mutex_chain.specs.Owners.{has_thread}
-use Rattle.mutex_chain.specs.Graph.{changed_at, listed_at}
-use Rattle.mutex_chain.specs.Raising.{AreRaised, listed, place_among, put_change}
+use Rattle.std.proofs.lemmas.Bool.{cases_eq, lt-ltb, le-ltb}
+use Rattle.rt_plain.specs.kernel.Ownership.{CurChange}
+use Rattle.mutex_chain.specs.Raising.{place_among, put_change}
 use Rattle.mutex_chain.proofs.ChangeLemmas.{filter_map_range}
-
-pub same_none : (o : Ownership) (t a : ℕ) → changed_at o t a a ≡ None
-same_none o t a = by_test (has_thread o t) (eqb a a) (eq-eqb a a refl)
-  where
-    by_test : (b c : Bool) → c ≡ true → cond {A = Option CurChange} (b && not c) (Some (record { thread = t; old = min a 255; new = min a 255 })) None ≡ None
-    by_test true true e = refl
-    by_test true false e = absurd (false≢true e)
-    by_test false c e = refl
-
-abbrev thread_or : ℕ → Option CurChange → ℕ
-thread_or t None = t
-thread_or t (Some c) = c.thread
-
-changed_thread : (o : Ownership) (t a b : ℕ) (c : CurChange) → changed_at o t a b ≡ Some c → c.thread ≡ t
-changed_thread o t a b c e = sym (ap (thread_or t) e) ∙ by_test (has_thread o t && not (eqb a b))
-  where
-    by_test : (d : Bool) → thread_or t (cond {A = Option CurChange} d (Some (record { thread = t; old = min a 255; new = min b 255 })) None) ≡ t
-    by_test true = refl
-    by_test false = refl
 
 pub place_among_within : (t : ℕ) (cs : List CurChange) → place_among t cs ≤ length cs
 place_among_within t [] = omega arith
@@ -108,67 +87,3 @@ fewer f x a (suc n) low high none = by_place (cases_eq x a) (λ k. fewer f x (a 
         ap (λ r. length (cons_option r (filter_map f (range_with_len (a + 1) n)))) (sym (ap f e) ∙ none) in
         omega (arith, few f (a + 1) n)
     by_place (inr ne) again = by_row (f a) (again (omega arith))
-
--- a number that isn't this one is the one before
-unraised : (olds numbers : List ℕ) (x number : ℕ) → AreRaised olds numbers number → number < slice_index numbers x → slice_index numbers x ≡ slice_index olds x
-unraised olds numbers x number r above = by_case (r x)
-  where
-    by_case : (slice_index numbers x ≡ slice_index olds x) ⊎ (slice_index numbers x ≡ number) → slice_index numbers x ≡ slice_index olds x
-    by_case (inl e) = e
-    by_case (inr e) = absurd (omega arith)
-
-no_change : (o : Ownership) (olds numbers : List ℕ) (x : ℕ) → slice_index numbers x ≡ slice_index olds x → listed_at o olds numbers x ≡ None
-no_change o olds numbers x still = ap (λ a. changed_at o x (slice_index olds x) a) still ∙ same_none o x (slice_index olds x)
-
--- there is room for the change of a thread that has none yet
-pub room_at : (o : Ownership) (olds numbers : List ℕ) (x : ℕ) → slice_index numbers x ≡ slice_index olds x → x < length o.members → length (listed o olds numbers) < length o.members
-room_at o olds numbers x still h = fewer (listed_at o olds numbers) x 0 (length o.members) (omega arith) (omega arith) (no_change o olds numbers x still)
-
-pub listed_room : (o : Ownership) (olds numbers : List ℕ) (x number : ℕ) → AreRaised olds numbers number → number < slice_index numbers x → x < length o.members
-    → length (listed o olds numbers) < length o.members
-listed_room o olds numbers x number r above h = room_at o olds numbers x (unraised olds numbers x number r above) h
-
-pub raised_more : (olds numbers : List ℕ) (x number : ℕ) → x < length numbers → AreRaised olds numbers number → AreRaised olds (slice_set numbers x number) number
-raised_more olds numbers x number h r t = by_place (cases_eq t x) (r t)
-  where
-    by_place : (t ≡ x) ⊎ (t ≢ x) → (slice_index numbers t ≡ slice_index olds t) ⊎ (slice_index numbers t ≡ number)
-        → (get_or (slice_set numbers x number) t 0 ≡ slice_index olds t) ⊎ (get_or (slice_set numbers x number) t 0 ≡ number)
-    by_place (inl e) w = inr (ap (λ i. get_or (slice_set numbers x number) i 0) e ∙ get_or-set_same numbers x number 0 h)
-    by_place (inr ne) (inl e) = inl (get_or-set_other numbers x t number 0 ne ∙ e)
-    by_place (inr ne) (inr e) = inr (get_or-set_other numbers x t number 0 ne ∙ e)
-
--- the change of one number more is put in
-pub put_at : (o : Ownership) (olds numbers : List ℕ) (x number : ℕ) → slice_index numbers x ≡ slice_index olds x → x < length o.members → length numbers ≡ length o.members
-    → put_change (changed_at o x (slice_index numbers x) number) (listed o olds numbers) ≡ listed o olds (slice_set numbers x number)
-put_at o olds numbers x number still h places =
-    ap (λ a. put_change (changed_at o x a number) (listed o olds numbers)) still
-    ∙ by_change (changed_at o x (slice_index olds x) number) refl
-  where
-    here : listed_at o olds (slice_set numbers x number) x ≡ changed_at o x (slice_index olds x) number
-    here = let within : x < length numbers = omega (arith, places) in ap (λ a. changed_at o x (slice_index olds x) a) (get_or-set_same numbers x number 0 within)
-
-    there : (t : ℕ) → t ≢ x → listed_at o olds numbers t ≡ listed_at o olds (slice_set numbers x number) t
-    there t ne = sym (ap (λ a. changed_at o t (slice_index olds t) a) (get_or-set_other numbers x t number 0 ne))
-
-    everywhere : (t : ℕ) → listed_at o olds (slice_set numbers x number) x ≡ None → (t ≡ x) ⊎ (t ≢ x) → listed_at o olds numbers t ≡ listed_at o olds (slice_set numbers x number) t
-    everywhere t none (inl e) = ap (listed_at o olds numbers) e ∙ no_change o olds numbers x still ∙ sym none ∙ sym (ap (listed_at o olds (slice_set numbers x number)) e)
-    everywhere t none (inr ne) = there t ne
-
-    by_change : (c : Option CurChange) → changed_at o x (slice_index olds x) number ≡ c → put_change c (listed o olds numbers) ≡ listed o olds (slice_set numbers x number)
-    by_change None e = filter_map_range (listed_at o olds numbers) (listed_at o olds (slice_set numbers x number)) 0 (length o.members) (λ t low high. everywhere t (here ∙ e) (cases_eq t x))
-    by_change (Some c) e =
-        put_some (listed_at o olds numbers) (listed_at o olds (slice_set numbers x number)) c x 0 (length o.members)
-        (λ t d k. changed_thread o t (slice_index olds t) (slice_index numbers t) d k) (changed_thread o x (slice_index olds x) number c e)
-        (omega arith) (omega arith) (no_change o olds numbers x still) (here ∙ e) there
-
-pub listed_put : (o : Ownership) (olds numbers : List ℕ) (x number : ℕ) → AreRaised olds numbers number → number < slice_index numbers x → x < length o.members → length numbers ≡ length o.members
-    → put_change (changed_at o x (slice_index numbers x) number) (listed o olds numbers) ≡ listed o olds (slice_set numbers x number)
-listed_put o olds numbers x number r above h places = put_at o olds numbers x number (unraised olds numbers x number r above) h places
-
--- equal lists have no changes
-pub listed_same : (o : Ownership) (numbers : List ℕ) → [] ≡ listed o numbers numbers
-listed_same o numbers = nothing (length o.members) 0
-  where
-    nothing : (n a : ℕ) → [] ≡ filter_map (listed_at o numbers numbers) (range_with_len a n)
-    nothing zero a = refl
-    nothing (suc n) a = nothing n (a + 1) ∙ sym (ap (λ r. cons_option r (filter_map (listed_at o numbers numbers) (range_with_len (a + 1) n))) (same_none o a (slice_index numbers a)))

@@ -9,16 +9,14 @@ use Rattle.std.proofs.lemmas.List.{get_or_past}
 use Rattle.std.proofs.lemmas.List.Elements.{All-get_or}
 use Rattle.std.proofs.lemmas.List.Sums.{sum_by-cons, sum_by-set}
 use Rattle.rt_plain.specs.kernel.Priority.{is_one_of}
-use Rattle.rt_plain.specs.kernel.Ownership.{Ownership, CurChange, Member, member_at, base_of, owned_in, member_urgency, cur_in}
+use Rattle.rt_plain.specs.kernel.Ownership.{Ownership, Member, member_at, base_of, owned_in, member_urgency, cur_in}
 use Rattle.mutex_chain.specs.Owners.{IsSound, IsSmall, blocker_in}
 use Rattle.mutex_chain.specs.Walks.{curs_of}
-use Rattle.mutex_chain.specs.Graph.{changed_at, listed_at}
-use Rattle.mutex_chain.specs.Raising.{IsRaising, listed, put_change}
+use Rattle.mutex_chain.specs.Raising.{IsRaising}
 use Rattle.mutex_chain.specs.Renewing.{IsAhead, IsChainSet, AreAside, IsMarking, IsLeast, IsRenewing, DiffersAt, fresh}
-use Rattle.mutex_chain.proofs.ChangeLemmas.{fold_le, filter_map_range}
+use Rattle.mutex_chain.proofs.ChangeLemmas.{fold_le}
 use Rattle.mutex_chain.proofs.CurLemmas.{blocker_within, cur_at, length-curs}
 use Rattle.mutex_chain.proofs.LawLemmas.{itself, only}
-use Rattle.mutex_chain.proofs.PutLemmas.{same_none, room_at, put_at, listed_same}
 use Rattle.mutex_chain.proofs.RaiseLemmas.{below_cur_in, owner_more}
 use Rattle.mutex_chain.proofs.StrongLemmas.{own_more, waiter_within}
 

@@ -1,5 +1,5 @@
 -- What the calls of the graph answer, and the lists that they fill.
-use Rattle.std.specs.Prelude.{ℕ, suc, [], ◌∷◌, ◌++◌, ◌≡◌, ◌≢◌, ◌-◌, Bool, true, false, not, ◌&&◌, min, List, length, Option, Some, None, nat_lt, slice_index, if◌then◌else◌, ◌==◌}
+use Rattle.std.specs.Prelude.{ℕ, suc, [], ◌∷◌, ◌++◌, ◌≡◌, ◌≢◌, ◌-◌, Bool, true, false, not, ◌&&◌, List, length, Option, Some, None, nat_lt, if◌then◌else◌, ◌==◌}
 use Rattle.rt_base.specs.declared.codes.WaitOrder.{WaitOrder}
 use Rattle.rt_plain.specs.kernel.Waiting.{Waiter, stands_before}
 use Rattle.rt_plain.specs.kernel.Ownership.{Ownership, Taken, MutexWait, CurChange, Pass, wait_of, wait_row}
@@ -83,14 +83,6 @@ goes_before w (Some v) = stands_before WaitOrder.Prio w v
 abbrev pub place_of : (ℕ → Option Waiter) → Waiter → List ℕ → ℕ
 place_of row w [] = 0
 place_of row w (t ∷ ts) = if goes_before w (row t) then 0 else suc (place_of row w ts)
-
--- the change of a thread that is there, where two numbers differ
-abbrev pub changed_at : Ownership → ℕ → ℕ → ℕ → Option CurChange
-changed_at o t old new = if has_thread o t && not (old == new) then Some (record { thread = t; old = min old 255; new = min new 255 }) else None
-
--- the change of a thread by two lists of numbers
-abbrev pub listed_at : Ownership → List ℕ → List ℕ → ℕ → Option CurChange
-listed_at o olds news t = changed_at o t (slice_index olds t) (slice_index news t)
 
 -- a waiter, or another one that it doesn't stand before
 abbrev pub sooner_of : Waiter → Option Waiter → Waiter

@@ -1,11 +1,10 @@
 -- Numbers that get more urgent along a chain of owners.
 use Rattle.std.specs.Prelude.{ℕ, ◌≡◌, ◌⊎◌, ◌<◌, ◌≤◌, suc, true, List, [], ◌∷◌, length, Option, Some, None, slice_index, nat_lt, if◌then◌else◌}
-use Rattle.std.specs.List.{insert, filter_map, range_with_len}
+use Rattle.std.specs.List.{insert}
 use Rattle.rt_plain.specs.kernel.State.{is_among}
 use Rattle.rt_plain.specs.kernel.Priority.{reach}
 use Rattle.rt_plain.specs.kernel.Ownership.{Ownership, CurChange, member_urgency, graph_in, cur_in}
 use Rattle.mutex_chain.specs.Owners.{blocker_in}
-use Rattle.mutex_chain.specs.Graph.{listed_at}
 
 -- numbers that become the current priorities where this one is carried on from a thread along its chain
 pub record IsRaising (o : Ownership) (numbers : List ℕ) (at : Option ℕ) (number : ℕ) : Type 0 where
@@ -14,14 +13,6 @@ pub record IsRaising (o : Ownership) (numbers : List ℕ) (at : Option ℕ) (num
   pub low : (t : ℕ) → at ≡ Some t → (t < length o.members) × (cur_in o t ≤ number)
   pub own : (t : ℕ) → t < length o.members → (slice_index numbers t ≤ member_urgency o t) ⊎ ((at ≡ Some t) × (number ≤ member_urgency o t))
   pub edges : (x t : ℕ) → blocker_in o x ≡ Some t → (slice_index numbers t ≤ slice_index numbers x) ⊎ ((at ≡ Some t) × (number ≤ slice_index numbers x))
-
--- each number is the one before, or this one
-abbrev pub AreRaised : List ℕ → List ℕ → ℕ → Type 0
-AreRaised olds numbers number = (t : ℕ) → (slice_index numbers t ≡ slice_index olds t) ⊎ (slice_index numbers t ≡ number)
-
--- the changes between two lists of numbers, in thread order
-abbrev pub listed : Ownership → List ℕ → List ℕ → List CurChange
-listed o olds news = filter_map (listed_at o olds news) (range_with_len 0 (length o.members))
 
 -- where the change of a thread belongs in a list in thread order
 abbrev pub place_among : ℕ → List CurChange → ℕ

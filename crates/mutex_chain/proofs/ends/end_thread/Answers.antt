@@ -1,8 +1,7 @@
-use Rattle.std.proofs.Common.{ℕ, List, arith, ◌≡◌, ◌<◌, ◌∙◌, ap, length, false, None, get_or-set_same}
+use Rattle.std.proofs.Common.{arith, ◌≡◌, ◌<◌, ◌∙◌, ap, length, None, get_or-set_same}
 use Rattle.std.proofs.Math.ListN.{length-set}
 use Rattle.rt_plain.specs.kernel.Ownership.{Ownership, is_there, with_member}
 use Rattle.mutex_chain.specs.Owners.{has_thread}
-use Rattle.mutex_chain.specs.Noting.{HasSmallNotes}
 use Rattle.mutex_chain.proofs.CurLemmas.{length-curs}
 use Rattle.mutex_chain.proofs.EditLemmas.{gone_aside, left_gone}
 use Rattle.mutex_chain.proofs.NoteLemmas.{small_on}

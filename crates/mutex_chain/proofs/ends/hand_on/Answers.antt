@@ -1,4 +1,4 @@
-use Rattle.std.proofs.Common.{ℕ, List, arith, ◌≡◌, ◌∙◌, sym, ap, length, Some}
+use Rattle.std.proofs.Common.{◌≡◌, ◌∙◌, sym, ap, length, Some}
 use Rattle.rt_plain.specs.kernel.Ownership.{Ownership, first_in, pass_edit_to, with_mutex_free}
 use Rattle.mutex_chain.specs.Renewing.{DiffersAt}
 use Rattle.mutex_chain.proofs.NoteLemmas.{small_on}

@@ -1,4 +1,4 @@
-use Rattle.std.proofs.Common.{◌≡◌, ◌∙◌, sym, ap, false, length}
+use Rattle.std.proofs.Common.{◌≡◌, ◌∙◌, sym, ap, false}
 use Rattle.rt_plain.specs.kernel.Ownership.{taken_of}
 use Rattle.mutex_chain.specs.Graph.{is_last, ChangeList, Keeps}
 use Rattle.mutex_chain.specs.Noting.{AreNotes, AreSmall}
