@@ -262,9 +262,10 @@ module _ (threads : List Thread) (l : Lists) (i : ℕ) (t : IsTied threads l) (t
 
   -- what it leaves
   pub sent-state : (name : List ℕ) (mask : ℕ) (plain : PlainEvent) → number_of l.objects.event.objects name ≡ Some i → found_event (map (plain_event l.events.items) l.objects.event.objects) name ≡ Some plain
-      → record (shown threads l.objects l.sems.items l.events.items l.channels) { threads = all_given threads (woken_by (bit_or event.flags mask) (wanting event)); events = map (plain_event (slice_set l.events.items i (sent event mask))) l.objects.event.objects } ≡ sent_to (shown threads l.objects l.sems.items l.events.items l.channels) plain mask
+      → record (shown threads l.objects l.sems.items l.events.items l.channels) { threads = all_given threads (woken_by (bit_or event.flags mask) (wanting event)); ready = map (λ w. w.0) (woken_by (bit_or event.flags mask) (wanting event)); events = map (plain_event (slice_set l.events.items i (sent event mask))) l.objects.event.objects } ≡ sent_to (shown threads l.objects l.sems.items l.events.items l.channels) plain mask
   sent-state name mask plain number found = λ k. record (shown threads l.objects l.sems.items l.events.items l.channels) {
     threads = all_given threads (sent-woken name mask plain number found k);
+    ready = map (λ w. w.0) (sent-woken name mask plain number found k);
     events = flags k;
   }
     where
@@ -396,11 +397,12 @@ woken-seen threads l name i woken event tied e all is = all ∙ seen-line thread
 
 -- what it leaves
 pub removed-seen : (threads now : List Thread) (l left : Lists) (gone : AllObjects) (name : List ℕ) (i : ℕ) (woken : List ℕ) → IsSound l.objects.event → number_of l.objects.event.objects name ≡ Some i → now ≡ all_woken Code.Error threads woken → IsShownAs l left → gone ≡ removed_event left.objects i
-    → shown now gone left.sems.items left.events.items left.channels ≡ without_event (shown threads l.objects l.sems.items l.events.items l.channels) name woken
+    → record (shown now gone left.sems.items left.events.items left.channels) { ready = woken } ≡ without_event (shown threads l.objects l.sems.items l.events.items l.channels) name woken
 removed-seen threads now l left gone name i woken sound e rows same is =
-    ap (λ b. shown now b left.sems.items left.events.items left.channels) (is ∙ ap (λ b. removed_event b i) same.objects)
+    ap (λ b. record (shown now b left.sems.items left.events.items left.channels) { ready = woken }) (is ∙ ap (λ b. removed_event b i) same.objects)
     ∙ (λ k. record (shown threads l.objects l.sems.items l.events.items l.channels) {
       threads = rows k;
+      ready = woken;
       sems = same.sems k;
       mailboxes = same.mailboxes k;
       queues = same.queues k;

@@ -10,6 +10,7 @@ pub mod MailboxLemmas
 pub mod ObjectRowLemmas
 pub mod OpenLemmas
 pub mod QueueLemmas
+pub mod ReadyLemmas
 pub mod SemLemmas
 pub mod ShownLemmas
 pub mod TableLemmas

@@ -260,11 +260,12 @@ woken-seen threads l name i woken mailbox tied e all is =
 
 -- what it leaves
 pub removed-seen : (threads now : List Thread) (l left : Lists) (gone : AllObjects) (name : List ℕ) (i : ℕ) (woken : List ℕ) → IsSound l.objects.mailbox → number_of l.objects.mailbox.objects name ≡ Some i → now ≡ all_woken Code.Error threads woken → IsShownAs l left → gone ≡ removed_mailbox left.objects i
-    → shown now gone left.sems.items left.events.items left.channels ≡ without_mailbox (tabled threads l) name woken
+    → record (shown now gone left.sems.items left.events.items left.channels) { ready = woken } ≡ without_mailbox (tabled threads l) name woken
 removed-seen threads now l left gone name i woken sound e rows same is =
-    ap (λ b. shown now b left.sems.items left.events.items left.channels) (is ∙ ap (λ b. removed_mailbox b i) same.objects)
+    ap (λ b. record (shown now b left.sems.items left.events.items left.channels) { ready = woken }) (is ∙ ap (λ b. removed_mailbox b i) same.objects)
     ∙ (λ k. record (tabled threads l) {
       threads = rows k;
+      ready = woken;
       sems = same.sems k;
       events = same.events k;
       mailboxes = (found-removed (plain_mailbox left.channels) (λ (x : Mailbox). x.name) l.objects.mailbox name i sound e (λ o. refl) ∙ ap (filter (λ (x : Mailbox). not (bytes_eq x.name name))) same.mailboxes) k;

@@ -1,18 +1,11 @@
 -- The threads of a board before their first statements.
 use Rattle.std.proofs.Common.{◌≡◌, ℕ, zero, suc, ◌+◌, ◌<◌, arith, List, [], ◌∷◌, ◌++◌, None, sym, ap, ◌∙◌, subst, length, map, take, get_or}
-use Rattle.std.specs.List.{AllByRecursion}
 use Rattle.std.proofs.lemmas.List.{map_more, map-append}
 use Rattle.rt_plain.specs.declared.board.ThreadDef.{ThreadDef}
 use Rattle.rt_plain.specs.kernel.State.{Thread}
 use Rattle.rt_plain.specs.kernel.Opening.{new_script_thread}
 use Rattle.kernel_tables.specs.declared.threads.Thread.{Thread as ThreadRow}
 use Rattle.kernel_tables.specs.Threads.{plain_thread}
-
--- a thread that is bound to no core
-pub unbound : (defs : List ThreadDef) (i : ℕ) (def : ThreadDef) → AllByRecursion (λ (d : ThreadDef). d.core ≡ None) defs → i < length defs → def ≡ get_or defs i def → def.core ≡ None
-unbound [] i def all there is = absurd (omega (arith, there))
-unbound (d ∷ defs) zero def all there is = subst (λ (x : ThreadDef). x.core ≡ None) (sym is) all.0
-unbound (d ∷ defs) (suc i) def all there is = unbound defs i def all.1 (omega (arith, there)) is
 
 -- a row more
 pub rows_more : (rows : List ThreadRow) (defs : List ThreadDef) (i : ℕ) (def : ThreadDef) (row : ThreadRow) → i < length defs → def ≡ get_or defs i def → plain_thread row ≡ new_script_thread def → map plain_thread rows ≡ map new_script_thread (take i defs)

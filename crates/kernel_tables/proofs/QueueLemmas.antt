@@ -272,11 +272,12 @@ woken-seen threads l name i woken queue tied e all is =
 
 -- what it leaves
 pub removed-seen : (threads now : List Thread) (l left : Lists) (gone : AllObjects) (name : List ℕ) (i : ℕ) (woken : List ℕ) → IsSound l.objects.msgqueue → number_of l.objects.msgqueue.objects name ≡ Some i → now ≡ all_woken Code.Error threads woken → IsShownAs l left → gone ≡ removed_queue left.objects i
-    → shown now gone left.sems.items left.events.items left.channels ≡ without_queue (tabled threads l) name woken
+    → record (shown now gone left.sems.items left.events.items left.channels) { ready = woken } ≡ without_queue (tabled threads l) name woken
 removed-seen threads now l left gone name i woken sound e rows same is =
-    ap (λ b. shown now b left.sems.items left.events.items left.channels) (is ∙ ap (λ b. removed_queue b i) same.objects)
+    ap (λ b. record (shown now b left.sems.items left.events.items left.channels) { ready = woken }) (is ∙ ap (λ b. removed_queue b i) same.objects)
     ∙ (λ k. record (tabled threads l) {
       threads = rows k;
+      ready = woken;
       sems = same.sems k;
       events = same.events k;
       queues = (found-removed (plain_queue left.channels) (λ (x : MsgQueue). x.name) l.objects.msgqueue name i sound e (λ o. refl) ∙ ap (filter (λ (x : MsgQueue). not (bytes_eq x.name name))) same.queues) k;

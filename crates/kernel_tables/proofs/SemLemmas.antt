@@ -127,7 +127,7 @@ taken-keeps l new i result old slot at taken kept sems events channels = slot-ke
 
 -- the tables, as contracts see them
 abbrev pub shown : List Thread → AllObjects → List Counted → List Flagged → PlainChannels → Tabled
-shown threads a sems events channels = record { threads = threads; sems = map (plain_sem sems) a.sem.objects; events = map (plain_event events) a.event.objects; mailboxes = map (plain_mailbox channels) a.mailbox.objects; queues = map (plain_queue channels) a.msgqueue.objects; sem_limit = a.sem.limit; event_limit = a.event.limit; mailbox_limit = a.mailbox.limit; queue_limit = a.msgqueue.limit }
+shown threads a sems events channels = record { threads = threads; ready = []; cores = 0; levels = 0; sems = map (plain_sem sems) a.sem.objects; events = map (plain_event events) a.event.objects; mailboxes = map (plain_mailbox channels) a.mailbox.objects; queues = map (plain_queue channels) a.msgqueue.objects; sem_limit = a.sem.limit; event_limit = a.event.limit; mailbox_limit = a.mailbox.limit; queue_limit = a.msgqueue.limit }
 
 -- the wait list of a semaphore, by its name
 pub seen-line : (threads : List Thread) (l : Lists) (name : List ℕ) (i : ℕ) → IsTied threads l → number_of l.objects.sem.objects name ≡ Some i → line (waits_in l WaitList.Sem i) ≡ sem_line threads (plain_sem l.sems.items (record { no = i; name = name }))
@@ -160,7 +160,7 @@ woke-there threads l name i t old tied e at first =
 
 -- what it leaves
 pub woke-seen : (threads woken : List Thread) (l : Lists) (name : List ℕ) (i t : ℕ) (old slot : Counted) → IsTied threads l → number_of l.objects.sem.objects name ≡ Some i → old ≡ sem_at l.sems.items i → ReleasedBy old slot (Woke t) → woken ≡ with_row threads t (woken_row Code.Ok)
-    → Releases (shown threads l.objects l.sems.items l.events.items l.channels) (shown woken l.objects (set l.sems.items i slot) l.events.items l.channels) name (Some (Woke t))
+    → Releases (shown threads l.objects l.sems.items l.events.items l.channels) (record (shown woken l.objects (set l.sems.items i slot) l.events.items l.channels) { ready = t ∷ [] }) name (Some (Woke t))
 woke-seen threads woken l name i t old slot tied e at released woken_is =
     let slot_is : slot ≡ record (sem_at l.sems.items i) { waiters = without (sem_at l.sems.items i).waiters t } = released.1 ∙ ap (λ (x : Counted). record x { waiters = without x.waiters t }) at in (
       plain_sem l.sems.items (record { no = i; name = name }),
@@ -172,6 +172,7 @@ woke-seen threads woken l name i t old slot tied e at released woken_is =
             woke-there threads l name i t old tied e at released.0,
             λ k. record (shown threads l.objects l.sems.items l.events.items l.channels) {
               threads = woken_is k;
+              ready = t ∷ [];
               sems = seen-same l.sems.items l.objects.sem.objects i slot (slot-there threads l name i tied e) (ap (λ (x : Counted). x.value) slot_is) (ap (λ (x : Counted). x.waiters.order) slot_is) k;
             },
           ),
@@ -324,11 +325,12 @@ woken-seen threads l name i woken sem tied e all is = all ∙ seen-line threads 
 
 -- what it leaves
 pub removed-seen : (threads now : List Thread) (l left : Lists) (gone : AllObjects) (name : List ℕ) (i : ℕ) (woken : List ℕ) → IsSound l.objects.sem → number_of l.objects.sem.objects name ≡ Some i → now ≡ all_woken Code.Error threads woken → IsShownAs l left → gone ≡ removed_sem left.objects i
-    → shown now gone left.sems.items left.events.items left.channels ≡ without_sem (shown threads l.objects l.sems.items l.events.items l.channels) name woken
+    → record (shown now gone left.sems.items left.events.items left.channels) { ready = woken } ≡ without_sem (shown threads l.objects l.sems.items l.events.items l.channels) name woken
 removed-seen threads now l left gone name i woken sound e rows same is =
-    ap (λ b. shown now b left.sems.items left.events.items left.channels) (is ∙ ap (λ b. removed_sem b i) same.objects)
+    ap (λ b. record (shown now b left.sems.items left.events.items left.channels) { ready = woken }) (is ∙ ap (λ b. removed_sem b i) same.objects)
     ∙ (λ k. record (shown threads l.objects l.sems.items l.events.items l.channels) {
       threads = rows k;
+      ready = woken;
       sems = (found-removed (plain_sem left.sems.items) (λ (x : Sem). x.name) l.objects.sem name i sound e (λ o. refl) ∙ ap (filter (λ (x : Sem). not (bytes_eq x.name name))) same.sems) k;
       events = same.events k;
       mailboxes = same.mailboxes k;

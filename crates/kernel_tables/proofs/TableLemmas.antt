@@ -206,8 +206,8 @@ knows-is threads l _ = refl
 -- the tables whose objects show the same
 pub tabled-same : (threads rows : List Thread) (l new : Lists) → rows ≡ threads → IsShownAs l new → tabled rows new ≡ tabled threads l
 tabled-same threads rows l new same shown =
-    ap (λ (a : AllObjects). record { threads = rows; sems = map (plain_sem new.sems.items) a.sem.objects; events = map (plain_event new.events.items) a.event.objects; mailboxes = map (plain_mailbox new.channels) a.mailbox.objects; queues = map (plain_queue new.channels) a.msgqueue.objects; sem_limit = a.sem.limit; event_limit = a.event.limit; mailbox_limit = a.mailbox.limit; queue_limit = a.msgqueue.limit }) shown.objects
-    ∙ (λ k. record { threads = same k; sems = shown.sems k; events = shown.events k; mailboxes = shown.mailboxes k; queues = shown.queues k; sem_limit = l.objects.sem.limit; event_limit = l.objects.event.limit; mailbox_limit = l.objects.mailbox.limit; queue_limit = l.objects.msgqueue.limit })
+    ap (λ (a : AllObjects). record { threads = rows; ready = []; cores = 0; levels = 0; sems = map (plain_sem new.sems.items) a.sem.objects; events = map (plain_event new.events.items) a.event.objects; mailboxes = map (plain_mailbox new.channels) a.mailbox.objects; queues = map (plain_queue new.channels) a.msgqueue.objects; sem_limit = a.sem.limit; event_limit = a.event.limit; mailbox_limit = a.mailbox.limit; queue_limit = a.msgqueue.limit }) shown.objects
+    ∙ (λ k. record { threads = same k; ready = []; cores = 0; levels = 0; sems = shown.sems k; events = shown.events k; mailboxes = shown.mailboxes k; queues = shown.queues k; sem_limit = l.objects.sem.limit; event_limit = l.objects.event.limit; mailbox_limit = l.objects.mailbox.limit; queue_limit = l.objects.msgqueue.limit })
 
 -- a thread that has left its wait may join a list
 may-join : (threads : List Thread) (l : Lists) (t : ℕ) (call : Call) → IsTied threads l → t < length threads → is_unlisted (row_at threads t).stage ≡ true → MayJoin l (number_at l.objects (list_of call)) t

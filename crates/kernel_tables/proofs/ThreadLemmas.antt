@@ -21,6 +21,6 @@ written rows threads i t old new change seen at there is same =
 
 -- what isn't built yet is so in each row
 pub rows_are_plain : (rows : List ThreadRow) → ArePlain (map plain_thread rows)
-rows_are_plain [] t = record { core = refl; retry = refl; text = refl }
-rows_are_plain (row ∷ rows) zero = record { core = refl; retry = refl; text = refl }
+rows_are_plain [] t = record { retry = refl; text = refl }
+rows_are_plain (row ∷ rows) zero = record { retry = refl; text = refl }
 rows_are_plain (row ∷ rows) (suc t) = rows_are_plain rows t

@@ -130,7 +130,7 @@ wakes at change active threads (w ∷ ws) =
     by_row t woken (inl e) (inr h) = inr (ap (λ (row : Thread). row.stage) e ∙ h)
 
 -- who waits in one list has no row in a list of other calls
-other-call : (p q : Call → Bool) → ((call : Call) → p call ≡ true → q call ≡ false) → (base : ℕ) (stage : Stage) → is_some (row_with base (number_in p stage)) ≡ true → row_with base (number_in q stage) ≡ None
+pub other-call : (p q : Call → Bool) → ((call : Call) → p call ≡ true → q call ≡ false) → (base : ℕ) (stage : Stage) → is_some (row_with base (number_in p stage)) ≡ true → row_with base (number_in q stage) ≡ None
 other-call p q apart base (Waiting (InCall call) number) waits = by_test (p call) refl waits
   where
     by_test : (c : Bool) → p call ≡ c → is_some (row_with base (cond c (Some number) None)) ≡ true → row_with base (cond (q call) (Some number) None) ≡ None

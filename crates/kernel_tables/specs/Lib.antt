@@ -1,6 +1,7 @@
 pub mod Listed
 pub mod ObjectRows
 pub mod Opened
+pub mod Ready
 pub mod Shown
 pub mod Tabled
 pub mod Threads

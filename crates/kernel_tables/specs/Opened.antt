@@ -1,5 +1,5 @@
 -- The tables as a board opens.
-use Rattle.std.specs.Prelude.{ℕ, ◌≡◌, ◌≢◌, ◌<◌, ◌≤◌, List, [], map, reverse, replicate, length, None}
+use Rattle.std.specs.Prelude.{ℕ, ◌≡◌, ◌≢◌, ◌<◌, ◌≤◌, true, List, [], map, reverse, replicate, length, None}
 use Rattle.std.specs.List.{All, AllPairs, AllByRecursion}
 use Rattle.rt_base.specs.declared.codes.WaitOrder.{WaitOrder}
 use Rattle.rt_plain.specs.declared.board.SemDef.{SemDef}
@@ -17,6 +17,9 @@ use Rattle.ipc_queues.specs.Channels.{slots_of, ends_at}
 use Rattle.ipc_queues.specs.Ends.{empty_ends}
 use Rattle.ipc_queues.specs.declared.channels.ChannelKind.{ChannelKind}
 use Rattle.kernel_tables.specs.declared.lists.Lists.{Lists}
+use Rattle.ready_set.specs.ReadyLists.{IsBinding}
+use Rattle.ready_list.specs.Depths.{is_depth}
+use Rattle.kernel_tables.specs.Ready.{started}
 use Rattle.kernel_tables.specs.Tabled.{Tabled}
 
 -- there is room for the objects of each class, and their names are distinct
@@ -30,16 +33,20 @@ pub record HasFittingObjects (b : PlainBoard) : Type 0 where
   pub mailbox_names : AllPairs (λ a c. a.name ≢ c.name) b.mailboxes
   pub queue_names : AllPairs (λ a c. a.name ≢ c.name) b.queues
 
--- a board whose tables may be opened: its threads are bound to no core
+-- a board whose tables may be opened
 pub record MayOpen (b : PlainBoard) : Type 0 where
   pub few : length b.threads ≤ 256
-  pub unbound : AllByRecursion (λ (def : ThreadDef). def.core ≡ None) b.threads
+  pub depth : is_depth b.levels ≡ true
+  pub threads : AllByRecursion (λ (def : ThreadDef). (def.prio < b.levels) × IsBinding b.cores def.core) b.threads
   pub objects : HasFittingObjects b
 
 -- what contracts see of the tables before the first statement
 abbrev pub first_tables : PlainBoard → Tabled
 first_tables b = record {
   threads = map new_script_thread b.threads;
+  ready = started (map new_script_thread b.threads) (length (map new_script_thread b.threads));
+  cores = b.cores;
+  levels = b.levels;
   sems = reverse (map new_sem b.sems);
   events = reverse (map new_event b.events);
   mailboxes = reverse (map new_mailbox b.mailboxes);
@@ -49,6 +56,10 @@ first_tables b = record {
   mailbox_limit = length b.mailboxes;
   queue_limit = length b.queues;
 }
+
+-- without its objects
+abbrev pub bare_tables : PlainBoard → Tabled
+bare_tables b = record (first_tables b) { sems = []; events = []; mailboxes = []; queues = [] }
 
 -- a wait list of so many threads in which nobody waits
 abbrev pub empty_waits : ℕ → Waits

@@ -1,11 +1,11 @@
 -- What contracts see of the tables of threads and objects, and what is done with them.
-use Rattle.std.specs.Prelude.{ℕ, Bool, true, false, ◌≡◌, ◌≢◌, ◌+◌, ◌-◌, ◌<◌, not, List, ◌∷◌, Option, Some, None, Result, Ok, Err, map, filter, fold, drop, length, slice_get, is_some, bit_and, bit_or, nat_lt, if◌then◌else◌}
+use Rattle.std.specs.Prelude.{ℕ, Bool, true, false, ◌≡◌, ◌≢◌, ◌+◌, ◌-◌, ◌<◌, not, List, [], ◌∷◌, ◌++◌, Option, Some, None, Result, Ok, Err, map, filter, fold, drop, length, slice_get, is_some, bit_and, bit_or, nat_lt, if◌then◌else◌, ◌==◌}
 use Rattle.std.specs.List.{find, filter_map, range_with_len}
 use Rattle.std.specs.Str.{bytes_eq}
 use Rattle.rt_base.specs.declared.codes.Code.{Code}
 use Rattle.rt_base.specs.declared.codes.WaitOrder.{WaitOrder}
 use Rattle.rt_plain.specs.declared.stmt.Call.{Call}
-use Rattle.rt_plain.specs.kernel.State.{Thread, Stage, Active, Waiting, InCall, Sem, EventObj, Mailbox, MsgQueue}
+use Rattle.rt_plain.specs.kernel.State.{Thread, Stage, Active, Waiting, InCall, Sem, EventObj, Mailbox, MsgQueue, is_among}
 use Rattle.rt_plain.specs.kernel.Waiting.{Waiter, number_in, threads_in_order, head_of, takes_sem, receives_event, sends_mail, receives_mail, sends_message, receives_message}
 use Rattle.rt_plain.specs.kernel.EventCalls.{Want as PlainWant, Wanting, is_satisfied, flags_after, flags_left, satisfied_waiters, want_of}
 use Rattle.rt_plain.specs.kernel.MailboxCalls.{has_mail_room}
@@ -19,9 +19,12 @@ use Rattle.ipc_counts.specs.declared.sem.SemReleased.TheVariants.{Woke, Raised, 
 use Rattle.kernel_tables.specs.Threads.{row_at, with_row}
 use Rattle.kernel_tables.specs.WaitLists.{list_of}
 
--- the threads by number, and the objects of each class, newest first, of which there may be so many
+-- the threads by number, those that are ready in order, and the objects of each class, newest first, of which there may be so many. Priorities lie below `levels`, and bindings below `cores`
 pub record Tabled : Type 0 where
   pub threads : List Thread
+  pub ready : List ℕ
+  pub cores : ℕ
+  pub levels : ℕ
   pub sems : List Sem
   pub events : List EventObj
   pub mailboxes : List Mailbox
@@ -131,7 +134,7 @@ sems_taken sems (Some sem) = if nat_lt 0 sem.value then put_sem sems (record sem
 
 -- a release of a semaphore that is there
 abbrev pub ReleasesSem : Tabled → Tabled → Sem → SemReleased → Type 0
-ReleasesSem old new sem (Woke t) = (head_of (sem_line old.threads sem) ≡ Some t) × ((t < length old.threads) × (new ≡ record old { threads = with_row old.threads t (woken_row Code.Ok) }))
+ReleasesSem old new sem (Woke t) = (head_of (sem_line old.threads sem) ≡ Some t) × ((t < length old.threads) × (new ≡ record old { threads = with_row old.threads t (woken_row Code.Ok); ready = old.ready ++ t ∷ [] }))
 ReleasesSem old new sem Full = (head_of (sem_line old.threads sem) ≡ None) × ((sem.value ≡ 65535) × (new ≡ old))
 ReleasesSem old new sem Raised = (head_of (sem_line old.threads sem) ≡ None) × ((sem.value ≢ 65535) × (new ≡ record old { sems = put_sem old.sems (record sem { value = sem.value + 1 }) }))
 
@@ -153,11 +156,11 @@ CreatesEvent old new event (Err (ClassFull limit)) = (found_event old.events eve
 
 -- what is left where a semaphore is deleted, whose waiters are these
 abbrev pub without_sem : Tabled → List ℕ → List ℕ → Tabled
-without_sem old name woken = record old { threads = all_woken Code.Error old.threads woken; sems = filter (λ o. not (bytes_eq o.name name)) old.sems }
+without_sem old name woken = record old { threads = all_woken Code.Error old.threads woken; ready = old.ready ++ woken; sems = filter (λ o. not (bytes_eq o.name name)) old.sems }
 
 -- the same for an event object
 abbrev pub without_event : Tabled → List ℕ → List ℕ → Tabled
-without_event old name woken = record old { threads = all_woken Code.Error old.threads woken; events = filter (λ o. not (bytes_eq o.name name)) old.events }
+without_event old name woken = record old { threads = all_woken Code.Error old.threads woken; ready = old.ready ++ woken; events = filter (λ o. not (bytes_eq o.name name)) old.events }
 
 -- the flags that a receiver gets at once
 abbrev pub flags_got : PlainWant → EventObj → Option ℕ
@@ -178,7 +181,14 @@ woken_on threads event mask = let flags = bit_or event.flags mask in map (λ w. 
 
 -- what is left after a mask is sent to an event object
 abbrev pub sent_to : Tabled → EventObj → ℕ → Tabled
-sent_to old event mask = let flags = bit_or event.flags mask in record old { threads = all_given old.threads (woken_on old.threads event mask); events = put_event old.events (record event { flags = flags_left flags (wanting_on old.threads event) }) }
+sent_to old event mask = let flags = bit_or event.flags mask in record old { threads = all_given old.threads (woken_on old.threads event mask); ready = old.ready ++ map (λ w. w.0) (woken_on old.threads event mask); events = put_event old.events (record event { flags = flags_left flags (wanting_on old.threads event) }) }
+
+-- the ready threads after a thread got another base priority: where it is new, a ready thread goes to the end
+abbrev pub moved_last : List ℕ → ℕ → List ℕ
+moved_last ready t = if is_among ready t then filter (λ u. not (u == t)) ready ++ t ∷ [] else ready
+
+abbrev pub rebased : Tabled → ℕ → ℕ → List ℕ
+rebased old t base = if (row_at old.threads t).base == base then old.ready else moved_last old.ready t
 
 -- the mailboxes after a word was put into one with room
 abbrev pub mails_put : List Mailbox → (List ℕ → List ℕ) → Option Mailbox → List Mailbox
@@ -224,7 +234,7 @@ CreatesQueue old new queue (Err (ClassFull limit)) = (found_queue old.queues que
 
 -- deletions
 abbrev pub without_mailbox : Tabled → List ℕ → List ℕ → Tabled
-without_mailbox old name woken = record old { threads = all_woken Code.Error old.threads woken; mailboxes = filter (λ o. not (bytes_eq o.name name)) old.mailboxes }
+without_mailbox old name woken = record old { threads = all_woken Code.Error old.threads woken; ready = old.ready ++ woken; mailboxes = filter (λ o. not (bytes_eq o.name name)) old.mailboxes }
 
 abbrev pub without_queue : Tabled → List ℕ → List ℕ → Tabled
-without_queue old name woken = record old { threads = all_woken Code.Error old.threads woken; queues = filter (λ o. not (bytes_eq o.name name)) old.queues }
+without_queue old name woken = record old { threads = all_woken Code.Error old.threads woken; ready = old.ready ++ woken; queues = filter (λ o. not (bytes_eq o.name name)) old.queues }

@@ -14,14 +14,14 @@ stage_of (OwnStage.Waiting call arrival) = Waiting (InCall call) arrival
 stage_of OwnStage.Suspended = Suspended
 stage_of OwnStage.Closed = Closed
 
--- a thread. What isn't built yet is constant: it is bound to no core, has no text, and makes no call again
+-- a thread. What isn't built yet is constant: it has no text, and makes no call again
 abbrev pub plain_thread : ThreadRow → Thread
 plain_thread r = record {
   name = r.name;
   base = r.base;
   slice = r.vars.slice;
   left = r.vars.left;
-  core = None;
+  core = r.core;
   stage = stage_of r.stage;
   next = r.vars.next;
   code = r.vars.code;
@@ -59,10 +59,9 @@ is_found name row = not (is_closed row.stage) && bytes_eq row.name name
 
 -- what isn't built yet is so in a row
 pub record IsPlainRow (row : Thread) : Type 0 where
-  pub core : row.core ≡ None
   pub retry : row.retry ≡ None
   pub text : row.text ≡ []
 
--- no thread is bound to a core, and none has a text or makes a call again
+-- no thread has a text or makes a call again
 abbrev pub ArePlain : List Thread → Type 0
 ArePlain threads = (t : ℕ) → IsPlainRow (row_at threads t)

@@ -1,5 +1,5 @@
 -- The wait lists hold exactly the threads that wait for their objects.
-use Rattle.std.specs.Prelude.{ℕ, ◌≡◌, ◌<◌, true, List, length, map, is_some, slice_get}
+use Rattle.std.specs.Prelude.{ℕ, ◌≡◌, ◌<◌, true, List, [], length, map, is_some, slice_get}
 use Rattle.rt_plain.specs.kernel.State.{Thread}
 use Rattle.rt_plain.specs.kernel.EventCalls.{want_of}
 use Rattle.susp_list.specs.Rows.{Waits}
@@ -14,9 +14,9 @@ use Rattle.kernel_tables.specs.Tabled.{Tabled}
 use Rattle.kernel_tables.specs.Threads.{row_at}
 use Rattle.kernel_tables.specs.WaitLists.{objects_in, calls_in, is_known}
 
--- the threads and the objects, as contracts see them
+-- the threads and the objects, as contracts see them where nobody is ready
 abbrev pub tabled : List Thread → Lists → Tabled
-tabled threads l = record { threads = threads; sems = plain_sems l; events = plain_events l; mailboxes = plain_mailboxes l; queues = plain_queues l; sem_limit = l.objects.sem.limit; event_limit = l.objects.event.limit; mailbox_limit = l.objects.mailbox.limit; queue_limit = l.objects.msgqueue.limit }
+tabled threads l = record { threads = threads; ready = []; cores = 0; levels = 0; sems = plain_sems l; events = plain_events l; mailboxes = plain_mailboxes l; queues = plain_queues l; sem_limit = l.objects.sem.limit; event_limit = l.objects.event.limit; mailbox_limit = l.objects.mailbox.limit; queue_limit = l.objects.msgqueue.limit }
 
 -- each wait list holds the threads whose stage names it, with their priority and arrival number, and nobody where there is no such object; each thread waits for an object that is there
 pub record AreTied (threads : List Thread) (a : AllObjects) (waits : WaitList → ℕ → Waits) : Type 0 where

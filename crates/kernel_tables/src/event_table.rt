@@ -5,6 +5,7 @@ ghost use Rattle.rt_plain.specs.kernel.State.{EventObj as PlainEvent};
 ghost use Rattle.ipc_counts.specs.Flags.{plain_want};
 ghost use Rattle.kernel_tables.specs.Tabled.{found_event, flags_got, events_received, CreatesEvent, event_line, woken_on, sent_to, without_event};
 
+use crate::ready::{enter_all, enter_given};
 use crate::tables::Tables;
 use crate::thread_list::ThreadList;
 use crate::wait_list::WaitList;
@@ -43,6 +44,7 @@ impl Tables {
             let (t, flags) = woken.at(i);
             self.threads.give(t, flags);
         }
+        enter_given(&mut self.ready, &self.threads, woken);
         true
     }
 
@@ -77,6 +79,7 @@ impl Tables {
             Code::Error,
             woken,
         );
+        enter_all(&mut self.ready, &self.threads, woken);
         self.lists.objects.remove(Class::Event, no);
         let _ = self.lists.objects.count(Class::Event);
         true

@@ -7,6 +7,7 @@ mod mailbox_table;
 mod object_rows;
 mod open;
 mod queue_table;
+mod ready;
 mod sem_table;
 mod shown;
 mod stage;

@@ -6,6 +6,7 @@ ghost use Rattle.rt_plain.specs.kernel.MailboxCalls.{has_mail_room};
 ghost use Rattle.rt_plain.specs.kernel.Waiting.{head_of};
 ghost use Rattle.kernel_tables.specs.Tabled.{found_mailbox, mails_put, mails_taken, mail_line, CreatesMailbox, without_mailbox};
 
+use crate::ready::enter_all;
 use crate::tables::Tables;
 use crate::thread_list::ThreadList;
 use crate::waking::wake_ends;
@@ -90,6 +91,7 @@ impl Tables {
             no,
             woken,
         );
+        enter_all(&mut self.ready, &self.threads, woken);
         self.lists.objects.remove(Class::Mailbox, no);
         // Their numbers and names are still distinct.
         let _ = self.lists.objects.count(Class::Mailbox);

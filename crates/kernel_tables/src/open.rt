@@ -1,20 +1,20 @@
-ghost use Rattle.std.specs.Prelude.{◌≡◌, not, [], reverse, length, map, filter, None, IfOk, OnOk, if◌then◌else◌};
-ghost use Rattle.std.specs.List.{range_with_len, AllByRecursion};
-ghost use Rattle.rt_plain.specs.declared.board.ThreadDef.{ThreadDef as PlainDef};
-ghost use Rattle.rt_plain.specs.kernel.State.{Active, Initial, is_initial};
+ghost use Rattle.std.specs.Prelude.{◌≡◌, ◌<◌, ℕ, [], reverse, length, map, IfOk, OnOk, if◌then◌else◌};
+ghost use Rattle.rt_plain.specs.kernel.State.{Active, Initial};
 ghost use Rattle.rt_plain.specs.kernel.Opening.{new_script_thread, new_sem, new_event, new_mailbox, new_queue};
-ghost use Rattle.kernel_tables.specs.Opened.{empty_waits, AreFreeSems, AreFreeEvents, AreEmpty, MayCreateSems, MayCreateEvents, MayCreateMailboxes, MayCreateQueues, MayOpen, first_tables};
+ghost use Rattle.kernel_tables.specs.Opened.{empty_waits, AreFreeSems, AreFreeEvents, AreEmpty, MayCreateSems, MayCreateEvents, MayCreateMailboxes, MayCreateQueues, MayOpen, HasFittingObjects, bare_tables, first_tables};
+ghost use Rattle.ready_list.specs.Ordered.{with_rows};
+ghost use Rattle.kernel_tables.specs.Ready.{IsWithin, row_for, started};
 ghost use Rattle.kernel_tables.specs.Threads.{plain_thread, row_at, stage_of};
 
 use crate::lists::Lists;
 use crate::stage::Stage;
 use crate::tables::Tables;
-use crate::thread_list::ThreadList;
 use crate::threads::{Thread, Threads};
 use crate::vars::Vars;
 use ipc_counts::{EventObj, Sem};
 use ipc_queues::{Channels, Mailbox, MsgQueue};
 use object_box::{ClassLimits, Objects};
+use ready_list::ReadyList;
 use rt_base::{Class, Code, ThreadNo, WaitOrder};
 use rt_plain::{Board, EventDef, MailboxDef, QueueDef, SemDef, ThreadDef};
 use std::alloc::{AllocError, Global};
@@ -32,12 +32,12 @@ fn first_stage(is_started: bool) -> Stage
 
 // A thread of the board before its first statement.
 fn thread_of(def: &ThreadDef) -> Thread
-    requires { def.now.core ≡ None }
     ensures { plain_thread result ≡ new_script_thread def.now }
 {
     Thread {
         name: def.name.copy(),
         base: def.prio,
+        core: def.core,
         stage: first_stage(def.started),
         vars: Vars {
             slice: def.slice,
@@ -54,7 +54,6 @@ fn thread_of(def: &ThreadDef) -> Thread
 
 // The threads of the board before their first statements.
 fn threads_of(alloc: Global, defs: &[ThreadDef]) -> Result<Vec<Thread>, AllocError>
-    requires unbound { AllByRecursion (λ (def : PlainDef). def.core ≡ None) defs.now }
     ensures { IfOk result (λ threads. map plain_thread threads.items ≡ map new_script_thread defs.now) }
 {
     let mut threads = Vec::with_capacity(alloc, defs.len())?;
@@ -65,15 +64,17 @@ fn threads_of(alloc: Global, defs: &[ThreadDef]) -> Result<Vec<Thread>, AllocErr
 }
 
 impl Threads {
-    /// The started threads go to the end of a list, in thread order. The list is empty before.
-    pub fn start(&self, ready: &mut ThreadList)
-        requires { ready.old ≡ [] }
-        ensures { ready.new ≡ filter (λ t. not (is_initial (row_at self.now t).stage)) (range_with_len 0 (length self.now)) }
+    // The started threads go to the end of the ready list, in thread order. Nobody is ready before.
+    fn start(&self, ready: &mut ReadyList)
+        requires none { ready.old.rows ≡ [] }
+        requires count { ready.old.threads ≡ length self.now }
+        requires within { (t : ℕ) → t < length self.now → IsWithin ready.old (row_at self.now t) }
+        ensures { ready.new ≡ with_rows ready.old (map (row_for self.now) (started self.now (length self.now))) }
     {
-        for t in 0..self.len() {
-            let thread = ThreadNo(t as u16);
-            if !self.is_initial(thread) {
-                ready.push_last(thread);
+        for i in 0..self.len() {
+            let t = ThreadNo(i as u16);
+            if !self.is_initial(t) {
+                ready.add_tail(t, self.base(t), self.core(t));
             }
         }
     }
@@ -195,6 +196,18 @@ impl Tables {
         Ok(())
     }
 
+    // The objects of a board, where there are none yet.
+    fn create_objects(&mut self, alloc: Global, board: &Board) -> Result<(), AllocError>
+        requires bare { self.old ≡ bare_tables board.now }
+        requires fitting { HasFittingObjects board.now }
+        ensures { OnOk result (self.new ≡ first_tables board.now) }
+    {
+        self.create_sems(board.sems.as_slice());
+        self.create_events(board.events.as_slice());
+        self.create_mailboxes(alloc, board.mailboxes.as_slice())?;
+        self.create_queues(alloc, board.queues.as_slice())
+    }
+
     /// The threads and the objects of a board as it opens, with room for as many objects of each class as it says. No
     /// other call takes memory. The one refusal is want of memory.
     pub fn open(alloc: Global, board: &Board) -> Result<Tables, AllocError>
@@ -202,19 +215,23 @@ impl Tables {
         ensures { IfOk result (λ k. k ≡ first_tables board.now) }
     {
         let threads = Threads::new(threads_of(alloc, board.threads.as_slice())?);
+        let count = threads.len() as u16;
         let room = Room {
             sems: board.limits.sem,
             events: board.limits.event,
             mailboxes: board.mailboxes.as_slice().len() as u16,
             queues: board.queues.as_slice().len() as u16,
-            threads: threads.len() as u16,
+            threads: count,
         };
         let lists = Lists::new(alloc, &room)?;
-        let mut tables = Tables { threads, lists };
-        tables.create_sems(board.sems.as_slice());
-        tables.create_events(board.events.as_slice());
-        tables.create_mailboxes(alloc, board.mailboxes.as_slice())?;
-        tables.create_queues(alloc, board.queues.as_slice())?;
+        let mut ready = ReadyList::new(alloc, count, board.cores, board.levels)?;
+        threads.start(&mut ready);
+        let mut tables = Tables {
+            threads,
+            lists,
+            ready,
+        };
+        tables.create_objects(alloc, board)?;
         Ok(tables)
     }
 }

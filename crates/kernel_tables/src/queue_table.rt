@@ -5,6 +5,7 @@ ghost use Rattle.rt_plain.specs.kernel.State.{MsgQueue as PlainQueue};
 ghost use Rattle.rt_plain.specs.kernel.Waiting.{head_of};
 ghost use Rattle.kernel_tables.specs.Tabled.{found_queue, message_answer, messages_put, messages_taken, message_line, CreatesQueue, without_queue};
 
+use crate::ready::enter_all;
 use crate::tables::Tables;
 use crate::thread_list::ThreadList;
 use crate::waking::wake_ends;
@@ -89,6 +90,7 @@ impl Tables {
             no,
             woken,
         );
+        enter_all(&mut self.ready, &self.threads, woken);
         self.lists.objects.remove(Class::MsgQueue, no);
         // Their numbers and names are still distinct.
         let _ = self.lists.objects.count(Class::MsgQueue);

@@ -4,6 +4,7 @@ ghost use Rattle.std.specs.Option.{option_map};
 ghost use Rattle.rt_plain.specs.kernel.State.{Sem as PlainSem};
 ghost use Rattle.kernel_tables.specs.Tabled.{found_sem, sems_taken, Releases, CreatesSem, sem_line, without_sem};
 
+use crate::ready::enter_all;
 use crate::tables::Tables;
 use crate::thread_list::ThreadList;
 use crate::wait_list::WaitList;
@@ -32,6 +33,8 @@ impl Tables {
         let answer = self.lists.sems[no.0 as usize].release();
         if let SemReleased::Woke(t) = answer {
             self.threads.wake(t, Code::Ok);
+            self.ready
+                .add_tail(t, self.threads.base(t), self.threads.core(t));
         }
         Some(answer)
     }
@@ -68,6 +71,7 @@ impl Tables {
             Code::Error,
             woken,
         );
+        enter_all(&mut self.ready, &self.threads, woken);
         self.lists.objects.remove(Class::Sem, no);
         // Their numbers and names are still distinct.
         let _ = self.lists.objects.count(Class::Sem);

@@ -1,34 +1,40 @@
-ghost use Rattle.std.specs.Prelude.{◌≡◌, ◌<◌, length, true, false, None};
-ghost use Rattle.rt_plain.specs.kernel.State.{Closed, Waiting, InCall};
+ghost use Rattle.std.specs.Prelude.{◌≡◌, ◌<◌, ◌++◌, ◌∷◌, ◌==◌, [], filter, length, not, true, false, None};
+ghost use Rattle.rt_plain.specs.kernel.Sound.{is_active};
+ghost use Rattle.rt_plain.specs.kernel.State.{Active, Closed, InCall, Suspended, Waiting, is_among};
 ghost use Rattle.rt_plain.specs.kernel.Ticks.{thread_after_slice};
-ghost use Rattle.kernel_tables.specs.Tabled.{is_unlisted, knows};
-ghost use Rattle.kernel_tables.specs.Threads.{stage_of, with_row, with_vars};
+ghost use Rattle.kernel_tables.specs.Tabled.{knows, rebased};
+ghost use Rattle.kernel_tables.specs.Threads.{row_at, with_row, with_vars};
 
 use crate::lists::Lists;
+use crate::ready::rebase;
 use crate::stage::Stage;
 use crate::threads::Threads;
 use crate::vars::Vars;
+use ready_list::ReadyList;
 use rt_base::{Code, Prio, ThreadNo};
 use rt_plain::Call;
 use std::marker::Model;
 
-/// The threads, and the objects that they wait for. Contracts see the plain threads and objects. What it keeps: the wait
-/// list of each object holds exactly the threads that wait for it.
+/// The threads, which of them are ready, and the objects that they wait for. Contracts see the plain threads, the plain
+/// ready list and the plain objects. What it keeps: the wait list of each object holds exactly the threads that wait for
+/// it, and the ready list has active threads alone, each with its priority and its binding.
 #[derive(Drop)]
 pub struct Tables {
     pub(crate) threads: Threads,
     pub(crate) lists: Lists,
+    pub(crate) ready: ReadyList,
 }
 
 impl Model for Tables {
     ghost use Rattle.kernel_tables.specs.Tabled.{Tabled};
-    ghost use Rattle.kernel_tables.specs.Tied.{tabled, IsTied};
+    ghost use Rattle.kernel_tables.specs.Tied.{tabled};
+    ghost use Rattle.kernel_tables.specs.Ready.{AreTables, with_ready};
 
     ghost Value = { Tabled };
 
-    ghost view = { λ k. tabled k.threads k.lists };
+    ghost view = { λ k. with_ready (tabled k.threads k.lists) k.ready };
 
-    ghost invariant = { λ k. IsTied k.threads k.lists };
+    ghost invariant = { λ k. AreTables k.threads k.lists k.ready };
 }
 
 impl Tables {
@@ -39,28 +45,42 @@ impl Tables {
         &self.threads
     }
 
-    /// The thread stands somewhere else, where it waits for no object. It leaves its wait.
-    pub fn stand(&mut self, t: ThreadNo, stage: Stage)
+    /// The thread is active, at the end of the ready list. It leaves its wait.
+    pub fn activate(&mut self, t: ThreadNo)
         requires there { t < length self.old.threads }
-        requires unlisted { is_unlisted (stage_of stage) ≡ true }
-        ensures { self.new ≡ record self.old { threads = with_row self.old.threads t (λ row. record row { stage = stage_of stage }) } }
+        requires idle { is_active (row_at self.old.threads t).stage ≡ false }
+        ensures { self.new ≡ record self.old { threads = with_row self.old.threads t (λ row. record row { stage = Active }); ready = self.old.ready ++ t ∷ [] } }
     {
         self.lists.leave_at(t, self.threads.stage(t));
-        self.threads.stand(t, stage);
+        self.threads.stand(t, Stage::Active);
+        self.ready
+            .add_tail(t, self.threads.base(t), self.threads.core(t));
     }
 
-    /// The thread has ended, and has nothing to do again. It leaves its wait.
+    /// The thread is suspended: it leaves the ready list and its wait.
+    pub fn suspend(&mut self, t: ThreadNo)
+        requires { t < length self.old.threads }
+        ensures { self.new ≡ record self.old { threads = with_row self.old.threads t (λ row. record row { stage = Suspended }); ready = filter (λ u. not (u == t)) self.old.ready } }
+    {
+        self.lists.leave_at(t, self.threads.stage(t));
+        self.threads.stand(t, Stage::Suspended);
+        self.ready.remove(t);
+    }
+
+    /// The thread has ended, and has nothing to do again. It leaves the ready list and its wait.
     pub fn close(&mut self, t: ThreadNo)
         requires { t < length self.old.threads }
-        ensures { self.new ≡ record self.old { threads = with_row self.old.threads t (λ row. record row { stage = Closed; retry = None }) } }
+        ensures { self.new ≡ record self.old { threads = with_row self.old.threads t (λ row. record row { stage = Closed; retry = None }); ready = filter (λ u. not (u == t)) self.old.ready } }
     {
         self.lists.leave_at(t, self.threads.stage(t));
         self.threads.close(t);
+        self.ready.remove(t);
     }
 
-    /// The thread waits in a call, whose object is there, with its arrival number.
+    /// The thread, which isn't ready, waits in a call, whose object is there, with its arrival number.
     pub fn wait(&mut self, t: ThreadNo, call: Call, at: u64)
         requires there { t < length self.old.threads }
+        requires unready { is_among self.old.ready t ≡ false }
         requires known { knows self.old call ≡ true }
         ensures { self.new ≡ record self.old { threads = with_row self.old.threads t (λ row. record row { stage = Waiting (InCall call) at }) } }
     {
@@ -69,12 +89,14 @@ impl Tables {
         self.threads.stand(t, Stage::Waiting(call, at));
     }
 
-    /// The thread has another base priority, also where it waits.
+    /// The thread has another base priority, also where it waits. Where the base is new, a ready thread goes to the end.
     pub fn set_base(&mut self, t: ThreadNo, base: Prio)
-        requires { t < length self.old.threads }
-        ensures { self.new ≡ record self.old { threads = with_row self.old.threads t (λ row. record row { base = base }) } }
+        requires there { t < length self.old.threads }
+        requires level { base < self.old.levels }
+        ensures { self.new ≡ record self.old { threads = with_row self.old.threads t (λ row. record row { base = base }); ready = rebased self.old t base } }
     {
         self.lists.reprio_at(t, self.threads.stage(t), base);
+        rebase(&mut self.ready, t, self.threads.base(t), base);
         self.threads.set_base(t, base);
     }
 

@@ -9,15 +9,16 @@ ghost use Rattle.kernel_tables.specs.Threads.{stage_of, plain_thread, with_row, 
 
 use crate::stage::Stage;
 use crate::vars::Vars;
-use rt_base::{Code, Name, Prio, ThreadNo};
+use rt_base::{Code, CoreNo, Name, Prio, ThreadNo};
 use rt_plain::ThreadState;
 use std::marker::Model;
 
-/// A thread: its priority, where it stands, and the rest.
+/// A thread: its priority, the core that it is bound to, where it stands, and the rest.
 #[derive(Drop)]
 pub struct Thread {
     pub name: Name,
     pub base: Prio,
+    pub core: Option<CoreNo>,
     pub stage: Stage,
     pub vars: Vars,
 }
@@ -74,7 +75,7 @@ impl Threads {
         self.items.len()
     }
 
-    /// No thread is bound to a core, and none makes a call again.
+    /// No thread has a text, and none makes a call again.
     pub fn know_plain(&self)
         ensures { ArePlain self.now }
     {
@@ -104,6 +105,14 @@ impl Threads {
         ensures { result ≡ (row_at self.now t).base }
     {
         self.items[t.0 as usize].base
+    }
+
+    /// The core that a thread is bound to, if any.
+    pub fn core(&self, t: ThreadNo) -> Option<CoreNo>
+        requires { t < length self.now }
+        ensures { result ≡ (row_at self.now t).core }
+    {
+        self.items[t.0 as usize].core
     }
 
     /// The ticks left of the slice of a thread.

@@ -11,6 +11,12 @@ use Rattle.rt_plain.specs.kernel.Statements.{script_of, statement_at}
 use Rattle.rt_plain.specs.text.Canon.{IsValid}
 use Rattle.rt_plain.proofs.runs.RunnableLemmas.{IsStocked, valid_stocked, valid_proper, valid_until, valid_scripts, valid_sized, valid_threads}
 use Rattle.rt_plain.proofs.kernel.TallyLemmas.{all-found}
+use Rattle.std.proofs.lemmas.List.Elements.{recursion_from_All}
+use Rattle.rt_plain.specs.declared.kind.LineKind.{LineKind}
+use Rattle.rt_plain.proofs.text.ValidLemmas.{valid_grows}
+use Rattle.rt_plain.proofs.kernel.LevelLemmas.{valid_levelled}
+use Rattle.rt_plain.specs.kernel.Sound.{is_levelled}
+use Rattle.ready_list.specs.Depths.{is_depth}
 use Rattle.kernel_tables.specs.Opened.{HasFittingObjects}
 use Rattle.rt_kernel.specs.Built.{is_built, IsBuilt, is_built_thread, is_built_statement}
 
@@ -43,6 +49,10 @@ fitting b stock = record {
   queue_names = stock.queues.1;
 }
 
+-- how many levels a valid board has
+valid_depth : (b : PlainBoard) → IsValid b → is_depth b.levels ≡ true
+valid_depth b valid = ((valid_grows b valid).0 LineKind.Levels).0
+
 pub built : (b : PlainBoard) → IsValid b → is_built b ≡ true → IsBuilt b
 built b valid is =
     let top = both _ _ is in
@@ -58,6 +68,8 @@ built b valid is =
     record {
       proper = valid_proper b valid;
       sized = valid_sized b valid;
+      levelled = valid_levelled b valid;
+      depth = valid_depth b valid;
       objects = fitting b (valid_stocked b valid);
       until = valid_until b valid;
       few = omega (arith, valid_threads b valid);
@@ -98,4 +110,13 @@ statement-built (st ∷ script) (suc i) all = statement-built script i (both (is
 -- each statement of a built board is built
 pub all-built : (b : PlainBoard) (name : List ℕ) (k : ℕ) → IsBuilt b → is_built_statement (statement_at (script_of b name) k) ≡ true
 all-built b name k built = statement-built (script_of b name) (k - 1) (script-all b name (λ script. list_all is_built_statement script ≡ true) refl
-    (list_all-each is_built_thread (λ (def : ThreadDef). list_all is_built_statement def.script ≡ true) (λ def is. (both _ _ is).1) b.threads built.threads))
+    (list_all-each is_built_thread (λ (def : ThreadDef). list_all is_built_statement def.script ≡ true) (λ def is. is) b.threads built.threads))
+
+-- no statement of a built board sets a priority that the levels don't have
+statement-levelled : (levels : ℕ) (script : List Stmt) (i : ℕ) → list_all (is_levelled levels) script ≡ true → is_levelled levels (unwrap_or (slice_get script i) Stmt.Exit) ≡ true
+statement-levelled levels [] i all = refl
+statement-levelled levels (st ∷ script) zero all = (both (is_levelled levels st) (list_all (is_levelled levels) script) all).0
+statement-levelled levels (st ∷ script) (suc i) all = statement-levelled levels script i (both (is_levelled levels st) (list_all (is_levelled levels) script) all).1
+
+pub all-levelled : (b : PlainBoard) (name : List ℕ) (k : ℕ) → IsBuilt b → is_levelled b.levels (statement_at (script_of b name) k) ≡ true
+all-levelled b name k built = statement-levelled b.levels (script_of b name) (k - 1) (script-all b name (λ script. list_all (is_levelled b.levels) script ≡ true) refl (recursion_from_All (λ (def : ThreadDef). list_all (is_levelled b.levels) def.script ≡ true) b.threads built.levelled.scripts))

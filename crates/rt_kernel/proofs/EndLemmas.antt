@@ -3,7 +3,7 @@ use Rattle.std.proofs.Common.{◌≡◌, ℕ, ◌≤◌, not, arith, List, [], �
 use Rattle.std.specs.Prelude.{if◌then◌else◌, ◌==◌}
 use Rattle.std.proofs.lemmas.List.{append-nil}
 use Rattle.rt_plain.specs.kernel.State.{is_among}
-use Rattle.rt_kernel.specs.NewBase.{moved_last}
+use Rattle.kernel_tables.specs.Tabled.{moved_last}
 
 none-left : (xs : List ℕ) → length xs ≤ 0 → xs ≡ []
 none-left [] h = refl
@@ -34,7 +34,7 @@ here_once t (x ∷ xs) once e = by_case (x == t) refl (here_once t xs) once e
     by_case false is rest one among = rest one among
 
 -- so where those that are not the thread stand first and then the thread, it has moved to the end
-pub moved-last : (t : ℕ) (xs : List ℕ) → length (filter (λ u. u == t) xs) ≤ 1 → filter (λ u. not (u == t)) xs ++ filter (λ u. u == t) xs ≡ moved_last t xs
+pub moved-last : (t : ℕ) (xs : List ℕ) → length (filter (λ u. u == t) xs) ≤ 1 → filter (λ u. not (u == t)) xs ++ filter (λ u. u == t) xs ≡ moved_last xs t
 moved-last t xs once = by_case (is_among xs t) refl where
   by_case : (c : Bool) → is_among xs t ≡ c → filter (λ u. not (u == t)) xs ++ filter (λ u. u == t) xs ≡ (if c then filter (λ u. not (u == t)) xs ++ t ∷ [] else xs)
   by_case true among = ap (λ ys. filter (λ u. not (u == t)) xs ++ ys) (here_once t xs once among)

@@ -1,5 +1,5 @@
 -- What the calls on event objects do, by what the tables do.
-use Rattle.std.proofs.Common.{◌≡◌, ℕ, ◌<◌, ◌≤◌, List, Option, Some, None, Bool, true, false, refl, sym, ap, ◌∙◌, subst, length, map, filter, not, is_some, bit_and, bit_or, if◌then◌else◌}
+use Rattle.std.proofs.Common.{◌≡◌, ◌++◌, ℕ, ◌<◌, ◌≤◌, List, Option, Some, None, Bool, true, false, refl, sym, ap, ◌∙◌, subst, length, map, filter, not, is_some, bit_and, bit_or, if◌then◌else◌}
 use Rattle.std.specs.List.{AllByRecursion}
 use Rattle.std.specs.Option.{option_map}
 use Rattle.std.specs.Str.{bytes_eq}
@@ -56,13 +56,13 @@ receives_later s name copy want timeout by same e = ap (λ (n : List ℕ). waits
 
 -- what a deletion does, and that those who wake are there
 pub event-deletes : (s : State) (name : List ℕ) (woken : List ℕ) → IsFree s → true ≡ is_some (found_event s.events name) → ((event : EventObj) → found_event s.events name ≡ Some event → woken ≡ event_line s.threads event)
-    → (event_deletion name s ≡ success (each_effect (follow_effect Code.Error) woken (record s { threads = all_woken Code.Error s.threads woken; events = filter (λ o. not (bytes_eq o.name name)) s.events }))) × AllByRecursion (λ t. t < length s.threads) woken
+    → (event_deletion name s ≡ success (each_effect (follow_effect Code.Error) woken (record s { threads = all_woken Code.Error s.threads woken; ready = s.ready ++ woken; events = filter (λ o. not (bytes_eq o.name name)) s.events }))) × AllByRecursion (λ t. t < length s.threads) woken
 event-deletes s name woken free there are = by_found (found_event s.events name) refl there where
   left : State
   left = record s { events = filter (λ o. not (bytes_eq o.name name)) s.events }
 
   by_found : (o : Option EventObj) → found_event s.events name ≡ o → true ≡ is_some o
-      → (found_outcome o (refusal s Code.Inval) (λ event. deletion_outcome left (waiters s event.order (receives_event name))) ≡ success (each_effect (follow_effect Code.Error) woken (record left { threads = all_woken Code.Error s.threads woken }))) × AllByRecursion (λ t. t < length s.threads) woken
+      → (found_outcome o (refusal s Code.Inval) (λ event. deletion_outcome left (waiters s event.order (receives_event name))) ≡ success (each_effect (follow_effect Code.Error) woken (record left { threads = all_woken Code.Error s.threads woken; ready = s.ready ++ woken }))) × AllByRecursion (λ t. t < length s.threads) woken
   by_found None is some = absurd cc
   by_found (Some event) is some = (ap (deletion_outcome left) listed ∙ ap success (wakes-follow Code.Error woken left), subst (AllByRecursion (λ t. t < length s.threads)) (sym (are event is)) (line-there s event.order (receives_event event.name) free)) where
     listed : waiters s event.order (receives_event name) ≡ woken

@@ -4,7 +4,7 @@ use Rattle.std.specs.Prelude.{if◌then◌else◌, ◌==◌, nat_lt}
 use Rattle.std.specs.List.{AllByRecursion, list_any, range_with_len}
 use Rattle.std.proofs.lemmas.List.FromFn.{length-range_with_len}
 use Rattle.rt_plain.specs.PlainBoard.{PlainBoard}
-use Rattle.rt_plain.specs.kernel.State.{State, thread_at, running_on, Alarm, OfThread, ArmedRow, is_closed, is_nest_of}
+use Rattle.rt_plain.specs.kernel.State.{State, thread_at, running_on, Alarm, OfThread, ArmedRow, is_closed, is_nest_of, is_among}
 use Rattle.rt_plain.specs.kernel.Pick.{pick}
 use Rattle.rt_plain.specs.kernel.Statements.{script_of, statement_effect}
 use Rattle.rt_plain.specs.kernel.Sound.{is_active, is_waiting, IsProper}
@@ -17,15 +17,18 @@ use Rattle.rt_plain.specs.kernel.Calls.{settled_effect}
 use Rattle.rt_plain.specs.kernel.Tally.{one_if, tally}
 use Rattle.rt_plain.proofs.kernel.TallyLemmas.{tally-length, all-count, all-weaker, tally-filter}
 use Rattle.rt_plain.specs.kernel.Kept.{Frame, Kept, stage_at, IsRowKept, IsRowBounded, IsFineThread, IsWaited}
-use Rattle.rt_plain.proofs.kernel.Invariant.{fine-at, fine-later, bounded-later, thread-kept, is-there, active-open, waiting-open, placed-active, running-active, run-kept, preempt-kept, without_alarm-kept}
+use Rattle.rt_plain.proofs.kernel.TallyLemmas.{tally-among}
+use Rattle.rt_plain.proofs.kernel.Invariant.{running-count, fine-at, fine-later, bounded-later, thread-kept, is-there, active-open, waiting-open, placed-active, running-active, run-kept, preempt-kept, without_alarm-kept}
 use Rattle.rt_plain.proofs.kernel.TickLemmas.{IsDueRow, DropsOne, due-rows, less-fits, filter-length, slice-fine, fold-kept}
 use Rattle.rt_plain.proofs.kernel.TickCosts.{all-owned, armed-few}
 use Rattle.rt_plain.proofs.kernel.StepLemmas.{picked-ready}
 use Rattle.rt_plain.proofs.kernel.StatementLemmas.{statement-kept, settled-kept}
 use Rattle.rt_plain.proofs.kernel.WakeLemmas.{wake-kept, close-kept}
+use Rattle.rt_kernel.specs.declared.state.State.{State as KernelState}
+use Rattle.rt_kernel.specs.View.{state_of}
 use Rattle.rt_kernel.specs.Due.{first_alarm}
 use Rattle.rt_kernel.specs.IsKernel.{frame_of}
-use Rattle.rt_kernel.specs.Switched.{switched, switched_by, effect_or, preempt_effect, AreNumbers}
+use Rattle.rt_kernel.specs.Switched.{switched, switched_by, effect_or, preempt_effect, IsOnCore}
 
 -- what holds under any frame that doesn't end later holds of now
 pub loosened : (f : Frame) (s : State) → Kept f s → s.moment ≤ f.low → f.latest ≤ 1099511627775 → Kept (frame_of f.board s) s
@@ -55,14 +58,6 @@ still-now b s new kept = loosened (frame_of b s) new kept (omega (arith, kept.mo
 ready-there : (f : Frame) (s : State) → Kept f s → AllByRecursion (λ t. t < length s.threads) s.ready
 ready-there f s kept = all-weaker (λ t. 1 ≤ tally (λ u. eqb u t) s.ready) (λ t. t < length s.threads) s.ready (λ t some. is-there s.threads t (active-open (thread_at s t).stage (placed-active f s t kept (omega (arith, some))))) (all-count s.ready)
 
-index-all : (P : ℕ → Type 0) (xs : List ℕ) (i : ℕ) → AllByRecursion P xs → i < length xs → P (slice_index xs i)
-index-all P [] i all lt = absurd (omega (arith, lt))
-index-all P (x ∷ xs) zero all lt = all.0
-index-all P (x ∷ xs) (suc i) all lt = index-all P xs i all.1 (omega (arith, lt))
-
-pub ready-numbers : (f : Frame) (s : State) → Kept f s → AreNumbers s.threads s.ready
-ready-numbers f s kept i lt = index-all (λ t. t < length s.threads) s.ready i (ready-there f s kept) lt
-
 one-most : (c : Bool) → one_if c ≤ 1
 one-most true = omega arith
 one-most false = omega arith
@@ -85,21 +80,25 @@ range-has a (suc n) x from to = by_test (eqb a x) refl (range-has (a + 1) n x) w
 pub ready-once : (f : Frame) (s : State) → Kept f s → (u : ℕ) → length (filter (λ v. v == u) s.ready) ≤ 1
 ready-once f s kept u = omega (arith, filter-length (λ v. v == u) s.ready, kept.placed u, one-most (is_active (stage_at s.threads u)))
 
--- there are no more ready threads than threads
-pub ready-few : (f : Frame) (s : State) → Kept f s → length s.ready ≤ length s.threads
-ready-few f s kept = omega (
-  arith,
-  all-owned (λ m x. eqb m x) (range_with_len 0 (length s.threads)) s.ready
-      (all-weaker (λ t. t < length s.threads) (λ t. list_any (λ m. eqb m t) (range_with_len 0 (length s.threads)) ≡ true) s.ready (λ t lt. range-has 0 (length s.threads) t (omega arith) (omega (arith, lt))) (ready-there f s kept))
-      (λ u. omega (arith, tally-turn u s.ready, kept.placed u, one-most (is_active (stage_at s.threads u)))),
-  length-range_with_len 0 (length s.threads),
-)
-
 -- a running thread is there, and stands at a statement or behind its script
 pub running-there : (f : Frame) (s : State) (core t : ℕ) → Kept f s → running_on s core ≡ Some t → (t < length s.threads) × ((thread_at s t).next ≤ length (script_of f.board (thread_at s t).name) + 2)
 running-there f s core t kept runs =
     let open_stage : is_closed (thread_at s t).stage ≡ false = active-open (thread_at s t).stage (running-active f s core t kept runs) in
     (is-there s.threads t open_stage, (fine-at f s t kept).2 open_stage)
+
+-- a thread on a core is there, active, and not ready
+pub on-core : (f : Frame) (k : KernelState) (core t : ℕ) → Kept f (state_of k) → running_on (state_of k) core ≡ Some t → IsOnCore k.tables t
+on-core f k core t kept runs = record {
+  there = (running-there f s core t kept runs).0;
+  active = running-active f s core t kept runs;
+  unready = by_test (is_among s.ready t) refl;
+} where
+  s : State
+  s = state_of k
+
+  by_test : (c : Bool) → is_among s.ready t ≡ c → c ≡ false
+  by_test true e = absurd (omega (arith, tally-among s.ready t e, running-count s.running core t runs, kept.placed t, one-most (is_active (stage_at s.threads t))))
+  by_test false e = refl
 
 -- a running thread has not ended
 pub running-open : (f : Frame) (s : State) (core t : ℕ) → Kept f s → running_on s core ≡ Some t → is_closed (thread_at s t).stage ≡ false

@@ -17,6 +17,7 @@ pub mod PrioLemmas
 pub mod Quiet
 pub mod SemCallLemmas
 pub mod Settled
+pub mod StageLemmas
 pub mod StatementLemmas
 pub mod SwitchLemmas
 pub mod ViewLemmas

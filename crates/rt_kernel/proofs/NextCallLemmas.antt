@@ -14,10 +14,11 @@ use Rattle.rt_base.specs.declared.codes.Code.{Code}
 use Rattle.rt_kernel.specs.declared.answer.Answer.{Answer}
 use Rattle.rt_kernel.specs.declared.settle.NewBase.{NewBase}
 use Rattle.rt_kernel.specs.declared.state.State.{State as KernelState}
-use Rattle.rt_kernel.specs.Built.{is_built_call}
+use Rattle.rt_kernel.specs.declared.built.Subject.{Subject}
+use Rattle.rt_kernel.specs.Built.{is_built_call, subject_of}
 use Rattle.rt_kernel.specs.Does.{Does, Acts, headed}
 use Rattle.rt_kernel.specs.Limits.{limits_of}
-use Rattle.rt_kernel.specs.NewBase.{new_base, settle_effect}
+use Rattle.rt_kernel.specs.NewBase.{new_base, moved_by, moved_outcome, shown_effect, settle_effect}
 use Rattle.rt_kernel.specs.NextCall.{begun, next_call, settled_call}
 use Rattle.rt_kernel.specs.View.{state_of}
 use Rattle.rt_kernel.proofs.CurLemmas.{IsFree}
@@ -70,30 +71,44 @@ pub if-some : {A : Type 0} (o : Option A) (P : A → Type 0) → ((x : A) → o 
 if-some None P says = tt
 if-some (Some x) P says = says x refl
 
--- a call that changes a base priority shows nothing by itself, and leaves the ready list
-base-alone : (b : PlainBoard) (call : Call) (s : State) (by : By) (attempt : Attempt) (change : NewBase) → new_base s call ≡ Some change → ((outcome_of b call s by attempt).effect.lines ≡ []) × ((outcome_of b call s by attempt).effect.state.ready ≡ s.ready)
+-- a call that changes a base priority shows nothing by itself
+base-alone : (b : PlainBoard) (call : Call) (s : State) (by : By) (attempt : Attempt) (change : NewBase) → new_base s call ≡ Some change → (outcome_of b call s by attempt).effect.lines ≡ []
 base-alone b (Call.SetPrio name prio) s by attempt change is = by_found (find_thread s name) where
   act : ℕ → Outcome
   act u = silent_success (with_thread s u (record (thread_at s u) { base = prio }))
 
-  by_found : (o : Option ℕ) → ((found_outcome o (refusal s Code.Inval) act).effect.lines ≡ []) × ((found_outcome o (refusal s Code.Inval) act).effect.state.ready ≡ s.ready)
-  by_found None = (refl, refl)
-  by_found (Some u) = (refl, refl)
+  by_found : (o : Option ℕ) → (found_outcome o (refusal s Code.Inval) act).effect.lines ≡ []
+  by_found None = refl
+  by_found (Some u) = refl
 base-alone b _ s by attempt change is = absurd cc
 
-answer-ready : (t : ℕ) (answer : PlainAnswer) (s : State) → (with_answer t answer s).ready ≡ s.ready
-answer-ready t (Answers code) s = refl
-answer-ready t Waits s = refl
+moved-lines : (change : Option NewBase) (outcome : Outcome) → (moved_by change outcome).effect.lines ≡ outcome.effect.lines
+moved-lines None outcome = refl
+moved-lines (Some change) outcome = refl
 
--- after such a call, as many threads are ready as before, and there is one line more
+-- a move, and then a line, are a line with its move
+moved-shown : (t : ℕ) (line : Option Code → Line) (change : Option NewBase) (outcome : Outcome) → and_then (call_effect t line (moved_by change outcome)) (shown_effect change) ≡ and_then (call_effect t line outcome) (settle_effect change)
+moved-shown t line None outcome = refl
+moved-shown t line (Some change) outcome = by_answer outcome.answer where
+  by_answer : (answer : PlainAnswer) → and_then (call_effect t line (moved_by (Some change) (record outcome { answer = answer }))) (shown_effect (Some change)) ≡ and_then (call_effect t line (record outcome { answer = answer })) (settle_effect (Some change))
+  by_answer (Answers code) = refl
+  by_answer Waits = refl
+
+moved-answer : (change : Option NewBase) (outcome : Outcome) → (moved_by change outcome).answer ≡ outcome.answer
+moved-answer None outcome = refl
+moved-answer (Some change) outcome = refl
+
+-- after such a call there is one line more
 pub base-call : (b : PlainBoard) (t core k : ℕ) (call : Call) (mid one : KernelState) (before after : Roomy Line) (answered : Answer) (most : ℕ) (change : NewBase) → new_base (state_of mid) call ≡ Some change
-    → Does mid one before after answered most (headed t (Line.Done (name_of (state_of mid) t) k) (outcome_of b call (state_of mid) (ByThread t core) First))
-    → (length one.ready ≡ length mid.ready) × (length after.items ≡ length before.items + 1)
+    → Does mid one before after answered most (headed t (Line.Done (name_of (state_of mid) t) k) (moved_outcome b call (state_of mid) (ByThread t core) First))
+    → length after.items ≡ length before.items + 1
 base-call b t core k call mid one before after answered most change is does =
     let outcome : Outcome = outcome_of b call (state_of mid) (ByThread t core) First in
-    let alone = base-alone b call (state_of mid) (ByThread t core) First change is in (
-      ap (λ (s : State). length s.ready) does.state ∙ ap length (answer-ready t outcome.answer outcome.effect.state ∙ alone.1),
-      omega (arith, ap length does.lines, length-append before.items (headed t (Line.Done (name_of (state_of mid) t) k) outcome).effect.lines, ap length alone.0),
+    omega (
+      arith,
+      ap length does.lines,
+      length-append before.items (headed t (Line.Done (name_of (state_of mid) t) k) (moved_by (new_base (state_of mid) call) outcome)).effect.lines,
+      ap length (moved-lines (new_base (state_of mid) call) outcome ∙ base-alone b call (state_of mid) (ByThread t core) First change is),
     )
 
 -- what is so of a change that is there is so of it later
@@ -103,18 +118,18 @@ some-kept (Some x) P Q says is = says x is
 
 -- what a call and what follows from it show
 pub call-few : (b : PlainBoard) (t core k : ℕ) (call : Call) (mid one new : KernelState) (before after last : Roomy Line) (answered : Answer) (most : ℕ) (change : Option NewBase) → change ≡ new_base (state_of mid) call
-    → Does mid one before after answered (2 + most) (headed t (Line.Done (name_of (state_of mid) t) k) (outcome_of b call (state_of mid) (ByThread t core) First))
-    → Acts one new after last 1 (settle_effect change (state_of one)) → length last.items ≤ length before.items + (2 + most)
+    → Does mid one before after answered (2 + most) (headed t (Line.Done (name_of (state_of mid) t) k) (moved_outcome b call (state_of mid) (ByThread t core) First))
+    → Acts one new after last 1 (shown_effect change (state_of one)) → length last.items ≤ length before.items + (2 + most)
 call-few b t core k call mid one new before after last answered most None is does acts = omega (arith, ap length acts.lines, length-append after.items [], does.few)
-call-few b t core k call mid one new before after last answered most (Some change) is does acts = omega (arith, (base-call b t core k call mid one before after answered (2 + most) change (sym is) does).1, acts.few)
+call-few b t core k call mid one new before after last answered most (Some change) is does acts = omega (arith, (base-call b t core k call mid one before after answered (2 + most) change (sym is) does), acts.few)
 
 -- the call that a thread makes next, with what follows from it
 pub calls-next : (b : PlainBoard) (t core k : ℕ) (call : Call) (old mid one new : KernelState) (before after last : Roomy Line) (answered : Answer) (change : Option NewBase)
-    → is_built_call call ≡ true → ((u : ℕ) → length (filter (λ v. v == u) old.ready) ≤ 1)
+    → is_built_call call ≡ true → ((u : ℕ) → length (filter (λ v. v == u) old.tables.ready) ≤ 1)
     → state_of mid ≡ begun (state_of old) t → k ≡ (thread_at (state_of old) t).next → limits_of mid.tables ≡ limits_of old.tables → length mid.tables.threads ≡ length old.tables.threads → mid.numbers ≡ old.numbers
     → change ≡ new_base (state_of mid) call
-    → Does mid one before after answered (2 + length mid.tables.threads) (headed t (Line.Done (name_of (state_of mid) t) k) (outcome_of b call (state_of mid) (ByThread t core) First))
-    → Acts one new after last 1 (settle_effect change (state_of one)) → new.numbers ≡ one.numbers
+    → Does mid one before after answered (2 + length mid.tables.threads) (headed t (Line.Done (name_of (state_of mid) t) k) (moved_outcome b call (state_of mid) (ByThread t core) First))
+    → Acts one new after last 1 (shown_effect change (state_of one)) → new.numbers ≡ one.numbers
     → Does old new before last answered (2 + length old.tables.threads) (settled_call b t core call (state_of old))
 calls-next b t core k call old mid one new before after last answered change built once begins place limits threads numbers is does acts kept = record {
   state = joined.state ∙ ap (λ (o : Outcome). o.effect.state) same;
@@ -129,15 +144,30 @@ calls-next b t core k call old mid one new before after last answered change bui
   s : State
   s = state_of old
 
-  followed : State → ℕ → Option NewBase → Outcome
-  followed m j o = record { effect = and_then (call_effect t (Line.Done (name_of m t) j) (outcome_of b call m (ByThread t core) First)) (settle_effect o); answer = (outcome_of b call m (ByThread t core) First).answer }
+  -- by the call as the tables do it, with the line that is left
+  acted : State → ℕ → Option NewBase → Outcome
+  acted m j o = record { effect = and_then (call_effect t (Line.Done (name_of m t) j) (moved_outcome b call m (ByThread t core) First)) (shown_effect o); answer = (moved_outcome b call m (ByThread t core) First).answer }
 
-  joined : Does mid new before last answered (2 + length mid.tables.threads) (followed (state_of mid) k change)
-  joined = does-then mid one new before after last answered (2 + length mid.tables.threads) 1 _ (settle_effect change) does acts kept (call-few b t core k call mid one new before after last answered (length mid.tables.threads) change is does acts)
+  followed : State → ℕ → Outcome
+  followed m j = record { effect = and_then (call_effect t (Line.Done (name_of m t) j) (outcome_of b call m (ByThread t core) First)) (settle_effect (new_base m call)); answer = (outcome_of b call m (ByThread t core) First).answer }
 
-  same : followed (state_of mid) k change ≡ settled_call b t core call s
+  joined : Does mid new before last answered (2 + length mid.tables.threads) (acted (state_of mid) k change)
+  joined = does-then mid one new before after last answered (2 + length mid.tables.threads) 1 _ (shown_effect change) does acts kept (call-few b t core k call mid one new before after last answered (length mid.tables.threads) change is does acts)
+
+  same : acted (state_of mid) k change ≡ settled_call b t core call s
   same =
-      ap (λ (o : Option NewBase). followed (state_of mid) k o) is
-      ∙ ap (λ (m : State). followed m k (new_base m call)) begins
-      ∙ ap (λ j. followed (begun s t) j (new_base (begun s t) call)) place
+      ap (λ (o : Option NewBase). acted (state_of mid) k o) is
+      ∙ ap (λ (e : Effect). record { effect = e; answer = (moved_outcome b call (state_of mid) (ByThread t core) First).answer }) (moved-shown t (Line.Done (name_of (state_of mid) t) k) (new_base (state_of mid) call) (outcome_of b call (state_of mid) (ByThread t core) First))
+      ∙ ap (λ (answer : PlainAnswer). record { effect = (followed (state_of mid) k).effect; answer = answer }) (moved-answer (new_base (state_of mid) call) (outcome_of b call (state_of mid) (ByThread t core) First))
+      ∙ ap (λ (m : State). followed m k) begins
+      ∙ ap (followed (begun s t)) place
       ∙ ap (λ (e : Effect). record { effect = e; answer = (next_call b t core call s).answer }) (sym (followed_call b s t core call built refl once).effect)
+
+-- a call on other objects than threads changes no base priority
+pub sem_moves : (b : PlainBoard) (call : Call) (s : State) (by : By) (attempt : Attempt) → subject_of call ≡ Some Subject.Sem → moved_outcome b call s by attempt ≡ outcome_of b call s by attempt
+sem_moves b (Call.SetPrio name prio) s by attempt is = absurd cc
+sem_moves b _ s by attempt is = refl
+
+pub event_moves : (b : PlainBoard) (call : Call) (s : State) (by : By) (attempt : Attempt) → subject_of call ≡ Some Subject.Event → moved_outcome b call s by attempt ≡ outcome_of b call s by attempt
+event_moves b (Call.SetPrio name prio) s by attempt is = absurd cc
+event_moves b _ s by attempt is = refl

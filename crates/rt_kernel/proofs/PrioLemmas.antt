@@ -14,8 +14,12 @@ use Rattle.rt_plain.specs.kernel.ThreadCalls.{set_prio}
 use Rattle.rt_plain.specs.kernel.Statements.{call_effect, with_next}
 use Rattle.rt_plain.specs.kernel.Calls.{settled_effect, has_new_cur, prio_line}
 use Rattle.rt_plain.proofs.kernel.TallyLemmas.{same-set, other-set, here-set, length-set_at}
-use Rattle.rt_kernel.specs.NewBase.{moved_last, changed_base, settle_effect}
-use Rattle.kernel_tables.specs.Threads.{is_found}
+use Rattle.rt_kernel.specs.NewBase.{changed_base, moved_by, settle_effect}
+use Rattle.rt_kernel.specs.declared.settle.NewBase.{NewBase}
+use Rattle.rt_kernel.specs.declared.state.State.{State as KernelState}
+use Rattle.rt_kernel.specs.View.{state_of}
+use Rattle.kernel_tables.specs.Tabled.{moved_last, rebased}
+use Rattle.kernel_tables.specs.Threads.{is_found, with_row}
 use Rattle.rt_kernel.proofs.CurLemmas.{IsFree, cur-base}
 use Rattle.rt_kernel.proofs.Settled.{settled-one, settled_one}
 use Rattle.rt_kernel.proofs.Quiet.{base-set, quiet-self, call_settles}
@@ -168,13 +172,37 @@ prio_settles b s t k line name prio free once = by_found (find_thread next name)
     as_new = ap (λ d. settled_as e (split_by (λ v. (v == u) && (is_among s.ready u && d)) s.ready) (prio_line s after u)) is-new
         ∙ ap (settled_as e (split_by (λ v. (v == u) && (is_among s.ready u && new)) s.ready)) is-shown
 
-    as_moved : settled_as e (split_by (λ v. (v == u) && (is_among s.ready u && new)) s.ready) (shown new) ≡ settled_as e (if new then moved_last u s.ready else s.ready) (shown new)
+    as_moved : settled_as e (split_by (λ v. (v == u) && (is_among s.ready u && new)) s.ready) (shown new) ≡ settled_as e (if new then moved_last s.ready u else s.ready) (shown new)
     as_moved = ap (λ (ready : List ℕ). settled_as e ready (shown new)) (moved-by u s.ready new ∙ ap (λ (ready : List ℕ). if new then ready else s.ready) (moved-last u s.ready (once u)))
 
-    by_case : (c : Bool) → ((thread_at next u).base == prio) ≡ c → settled_as e (if new then moved_last u s.ready else s.ready) (shown new) ≡ and_then e (settle_effect (if c then None else Some (record { thread = u; old = (thread_at next u).base; new = prio })))
-    by_case true same = ap (λ d. settled_as e (if not d then moved_last u s.ready else s.ready) (shown (not d))) same
-    by_case false same = ap (λ d. settled_as e (if not d then moved_last u s.ready else s.ready) (shown (not d))) same
+    by_case : (c : Bool) → ((thread_at next u).base == prio) ≡ c → settled_as e (if new then moved_last s.ready u else s.ready) (shown new) ≡ and_then e (settle_effect (if c then None else Some (record { thread = u; old = (thread_at next u).base; new = prio })))
+    by_case true same = ap (λ d. settled_as e (if not d then moved_last s.ready u else s.ready) (shown (not d))) same
+    by_case false same = ap (λ d. settled_as e (if not d then moved_last s.ready u else s.ready) (shown (not d))) same
 
   by_found : (o : Option ℕ) → find_thread next name ≡ o → settled_effect b s (call_effect t line (found_outcome o (refusal next Code.Inval) act)) ≡ and_then (call_effect t line (found_outcome o (refusal next Code.Inval) act)) (settle_effect (changed_base next o prio))
   by_found None is = call_settles b s t k line (refusal next Code.Inval) free (quiet-self next free) ∙ sym (nothing-follows (call_effect t line (refusal next Code.Inval)))
   by_found (Some u) is = let there = found_thread next name u is in by_base u there.0 there.1 ((thread_at next u).base == prio) refl
+
+-- setprio of a thread that is there, as the tables do it
+pub prio-moves : (k : KernelState) (name : List ℕ) (prio u : ℕ) → find_thread (state_of k) name ≡ Some u
+    → moved_by (changed_base (state_of k) (find_thread (state_of k) name) prio) (set_prio name prio (state_of k))
+    ≡ silent_success (state_of (record k { tables = record (k.tables) { threads = with_row k.tables.threads u (λ row. record row { base = prio }); ready = rebased k.tables u prio } }))
+prio-moves k name prio u found =
+    ap (λ (o : Option ℕ). moved_by (changed_base s o prio) (found_outcome o (refusal s Code.Inval) act)) found
+    ∙ by_test ((thread_at s u).base == prio) refl
+  where
+    s : State
+    s = state_of k
+
+    act : ℕ → Outcome
+    act v = let row : Thread = thread_at (state_of k) v in silent_success (with_thread (state_of k) v (record row { base = prio }))
+
+    change : NewBase
+    change = record { thread = u; old = (thread_at (state_of k) u).base; new = prio }
+
+    left : List ℕ → Outcome
+    left ready = silent_success (state_of (record k { tables = record (k.tables) { threads = with_row k.tables.threads u (λ row. record row { base = prio }); ready = ready } }))
+
+    by_test : (c : Bool) → ((thread_at s u).base == prio) ≡ c → moved_by (if (thread_at s u).base == prio then None else Some change) (act u) ≡ left (rebased k.tables u prio)
+    by_test true is = ap (λ c. moved_by (if c then None else Some change) (act u)) is ∙ sym (ap (λ c. left (if c then k.tables.ready else moved_last k.tables.ready u)) is)
+    by_test false is = ap (λ c. moved_by (if c then None else Some change) (act u)) is ∙ sym (ap (λ c. left (if c then k.tables.ready else moved_last k.tables.ready u)) is)

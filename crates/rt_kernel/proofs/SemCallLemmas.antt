@@ -1,5 +1,5 @@
 -- What the calls on semaphores do, by what the tables do.
-use Rattle.std.proofs.Common.{◌≡◌, ℕ, ◌+◌, ◌<◌, List, Option, Some, None, Bool, true, false, refl, sym, ap, ◌∙◌, subst, length, filter, not, is_some, nat_lt, ◌==◌, T, eqb→eq, if◌then◌else◌}
+use Rattle.std.proofs.Common.{◌≡◌, ◌++◌, ℕ, ◌+◌, ◌<◌, List, Option, Some, None, Bool, true, false, refl, sym, ap, ◌∙◌, subst, length, filter, not, is_some, nat_lt, ◌==◌, T, eqb→eq, if◌then◌else◌}
 use Rattle.std.specs.List.{AllByRecursion}
 use Rattle.std.specs.Option.{option_map}
 use Rattle.std.specs.Str.{bytes_eq}
@@ -46,13 +46,13 @@ takes_later s name copy timeout by same e = ap (λ (n : List ℕ). wait_or_refus
 
 -- what a deletion does, and that those who wake are there
 pub sem-deletes : (s : State) (name : List ℕ) (woken : List ℕ) → IsFree s → true ≡ is_some (found_sem s.sems name) → ((sem : Sem) → found_sem s.sems name ≡ Some sem → woken ≡ sem_line s.threads sem)
-    → (sem_deletion name s ≡ success (each_effect (follow_effect Code.Error) woken (record s { threads = all_woken Code.Error s.threads woken; sems = filter (λ o. not (bytes_eq o.name name)) s.sems }))) × AllByRecursion (λ t. t < length s.threads) woken
+    → (sem_deletion name s ≡ success (each_effect (follow_effect Code.Error) woken (record s { threads = all_woken Code.Error s.threads woken; ready = s.ready ++ woken; sems = filter (λ o. not (bytes_eq o.name name)) s.sems }))) × AllByRecursion (λ t. t < length s.threads) woken
 sem-deletes s name woken free there are = by_found (found_sem s.sems name) refl there where
   left : State
   left = record s { sems = filter (λ o. not (bytes_eq o.name name)) s.sems }
 
   by_found : (o : Option Sem) → found_sem s.sems name ≡ o → true ≡ is_some o
-      → (found_outcome o (refusal s Code.Inval) (λ sem. deletion_outcome left (waiters s sem.order (takes_sem name))) ≡ success (each_effect (follow_effect Code.Error) woken (record left { threads = all_woken Code.Error s.threads woken }))) × AllByRecursion (λ t. t < length s.threads) woken
+      → (found_outcome o (refusal s Code.Inval) (λ sem. deletion_outcome left (waiters s sem.order (takes_sem name))) ≡ success (each_effect (follow_effect Code.Error) woken (record left { threads = all_woken Code.Error s.threads woken; ready = s.ready ++ woken }))) × AllByRecursion (λ t. t < length s.threads) woken
   by_found None is some = absurd cc
   by_found (Some sem) is some = (ap (deletion_outcome left) listed ∙ ap success (wakes-follow Code.Error woken left), subst (AllByRecursion (λ t. t < length s.threads)) (sym (are sem is)) (line-there s sem.order (takes_sem sem.name) free)) where
     listed : waiters s sem.order (takes_sem name) ≡ woken

@@ -3,14 +3,14 @@ use Rattle.std.proofs.Common.{◌≡◌, ℕ, suc, ◌+◌, ◌<◌, ◌≤◌, 
 use Rattle.std.specs.List.{AllByRecursion}
 use Rattle.std.proofs.Math.Seq.{drop-cons}
 use Rattle.std.proofs.lemmas.Bool.{cases_lt}
-use Rattle.std.proofs.lemmas.List.{set-set, set_past}
+use Rattle.std.proofs.lemmas.List.{set-set, set_past, append-nil, append_assoc, map-id}
 use Rattle.rt_base.specs.declared.codes.Code.{Code}
 use Rattle.rt_base.specs.declared.codes.WaitOrder.{WaitOrder}
 use Rattle.rt_plain.specs.declared.line.Line.{Line}
 use Rattle.rt_plain.specs.declared.line.Woke.{Woke}
 use Rattle.rt_plain.specs.declared.stmt.Call.{Call}
 use Rattle.rt_plain.specs.kernel.State.{State, Thread, Active, no_thread, thread_at}
-use Rattle.rt_plain.specs.kernel.Effects.{Effect, and_then, line_effect, each_effect, wake_effect}
+use Rattle.rt_plain.specs.kernel.Effects.{Effect, no_effect, and_then, line_effect, each_effect, wake_effect}
 use Rattle.rt_plain.specs.kernel.EventCalls.{Wanting, flags_wake_effect}
 use Rattle.rt_plain.specs.kernel.Sound.{is_waiting}
 use Rattle.rt_plain.specs.kernel.Waiting.{waiters}
@@ -41,17 +41,17 @@ written-twice threads t one change = by_case (cases_lt t (length threads)) where
   by_case (inr past) = set-set threads t one _ ∙ set_past threads t _ past ∙ sym (set_past threads t _ past)
 
 -- a thread that wakes is one whose row is woken, with what follows
-pub wake-follows : (code : Code) (t : ℕ) (s : State) → wake_effect code t s ≡ follow_effect code t (record s { threads = with_row s.threads t (woken_row code) })
+pub wake-follows : (code : Code) (t : ℕ) (s : State) → wake_effect code t s ≡ follow_effect code t (record s { threads = with_row s.threads t (woken_row code); ready = s.ready ++ t ∷ [] })
 wake-follows code t s =
-    ap (λ (threads : List Thread). line_effect (followed (record s { threads = threads }) t) (Line.Wake (row_at s.threads t).name (Woke.Code code))) (written-twice s.threads t (record (row_at s.threads t) { code = code }) (λ row. record row { stage = Active }))
-    ∙ ap (λ (name : List ℕ). line_effect (followed (record s { threads = with_row s.threads t (woken_row code) }) t) (Line.Wake name (Woke.Code code))) (sym (row_names s.threads t t (woken_row code (row_at s.threads t)) refl))
+    ap (λ (threads : List Thread). line_effect (followed (record s { threads = threads; ready = s.ready ++ t ∷ [] }) t) (Line.Wake (row_at s.threads t).name (Woke.Code code))) (written-twice s.threads t (record (row_at s.threads t) { code = code }) (λ row. record row { stage = Active }))
+    ∙ ap (λ (name : List ℕ). line_effect (followed (record s { threads = with_row s.threads t (woken_row code); ready = s.ready ++ t ∷ [] }) t) (Line.Wake name (Woke.Code code))) (sym (row_names s.threads t t (woken_row code (row_at s.threads t)) refl))
 
 -- the same where it gets flags
-pub give-follows : (value t : ℕ) (s : State) → wake_effect Code.Ok t (record s { threads = with_row s.threads t (λ row. record row { value = value }) }) ≡ follow_effect Code.Ok t (record s { threads = with_row s.threads t (given_row value) })
+pub give-follows : (value t : ℕ) (s : State) → wake_effect Code.Ok t (record s { threads = with_row s.threads t (λ row. record row { value = value }) }) ≡ follow_effect Code.Ok t (record s { threads = with_row s.threads t (given_row value); ready = s.ready ++ t ∷ [] })
 give-follows value t s =
     let one : Thread = record (row_at s.threads t) { value = value } in
     wake-follows Code.Ok t (record s { threads = slice_set s.threads t one })
-    ∙ ap (λ (threads : List Thread). follow_effect Code.Ok t (record s { threads = threads })) (written-twice s.threads t one (woken_row Code.Ok))
+    ∙ ap (λ (threads : List Thread). follow_effect Code.Ok t (record s { threads = threads; ready = s.ready ++ t ∷ [] })) (written-twice s.threads t one (woken_row Code.Ok))
 
 -- changes of rows that keep all names
 abbrev pub KeepsNames : {A : Type 0} → (List Thread → A → List Thread) → Type 0
@@ -61,26 +61,28 @@ pub fold-names : {A : Type 0} (rows : List Thread → A → List Thread) → Kee
 fold-names rows keeps [] threads u = refl
 fold-names rows keeps (x ∷ xs) threads u = fold-names rows keeps xs (rows threads x) u ∙ keeps threads x u
 
--- threads that wake one after the other are those whose rows are woken first, with what follows for each
-pub each-follows : {A : Type 0} (act : A → State → Effect) (code : Code) (key : A → ℕ) (rows : List Thread → A → List Thread) → ((x : A) (s : State) → act x s ≡ follow_effect code (key x) (record s { threads = rows s.threads x })) → KeepsNames rows
-    → (xs : List A) (s : State) → each_effect act xs s ≡ each_effect (λ x. follow_effect code (key x)) xs (record s { threads = fold rows s.threads xs })
-each-follows act code key rows same keeps [] s = refl
+-- threads that wake one after the other are those whose rows are woken first, and who stand last, with what follows for each
+pub each-follows : {A : Type 0} (act : A → State → Effect) (code : Code) (key : A → ℕ) (rows : List Thread → A → List Thread) → ((x : A) (s : State) → act x s ≡ follow_effect code (key x) (record s { threads = rows s.threads x; ready = s.ready ++ key x ∷ [] })) → KeepsNames rows
+    → (xs : List A) (s : State) → each_effect act xs s ≡ each_effect (λ x. follow_effect code (key x)) xs (record s { threads = fold rows s.threads xs; ready = s.ready ++ map key xs })
+each-follows act code key rows same keeps [] s = ap (λ (ready : List ℕ). no_effect (record s { ready = ready })) (sym (append-nil s.ready))
 each-follows {A = A} act code key rows same keeps (x ∷ xs) s =
     ap (λ (e : Effect). and_then e (each_effect act xs)) (same x s)
-    ∙ ap (λ (e : Effect). record { state = e.state; lines = Line.Wake (row_at one x_is).name (Woke.Code code) ∷ e.lines }) (each-follows act code key rows same keeps xs (followed (record s { threads = one }) x_is))
-    ∙ ap (λ (name : List ℕ). record { state = rest.state; lines = Line.Wake name (Woke.Code code) ∷ rest.lines }) (sym (fold-names rows keeps xs one x_is)) where
+    ∙ ap (λ (e : Effect). record { state = e.state; lines = Line.Wake (row_at one x_is).name (Woke.Code code) ∷ e.lines }) (each-follows act code key rows same keeps xs (followed (record s { threads = one; ready = s.ready ++ x_is ∷ [] }) x_is))
+    ∙ ap (λ (name : List ℕ). record { state = (rest ((s.ready ++ x_is ∷ []) ++ map key xs)).state; lines = Line.Wake name (Woke.Code code) ∷ (rest ((s.ready ++ x_is ∷ []) ++ map key xs)).lines }) (sym (fold-names rows keeps xs one x_is))
+    ∙ ap (λ (ready : List ℕ). record { state = (rest ready).state; lines = Line.Wake (row_at (fold rows one xs) x_is).name (Woke.Code code) ∷ (rest ready).lines }) (append_assoc s.ready (x_is ∷ []) (map key xs)) where
       one : List Thread
       one = rows s.threads x
 
       x_is : ℕ
       x_is = key x
 
-      rest : Effect
-      rest = each_effect (λ (y : A). follow_effect code (key y)) xs (record (followed (record s { threads = one }) x_is) { threads = fold rows one xs })
+      rest : List ℕ → Effect
+      rest ready = each_effect (λ (y : A). follow_effect code (key y)) xs (record (followed s x_is) { threads = fold rows one xs; ready = ready })
 
 -- threads that wake with a code
-pub wakes-follow : (code : Code) (ts : List ℕ) (s : State) → each_effect (wake_effect code) ts s ≡ each_effect (follow_effect code) ts (record s { threads = all_woken code s.threads ts })
+pub wakes-follow : (code : Code) (ts : List ℕ) (s : State) → each_effect (wake_effect code) ts s ≡ each_effect (follow_effect code) ts (record s { threads = all_woken code s.threads ts; ready = s.ready ++ ts })
 wakes-follow code ts s = each-follows (wake_effect code) code (λ t. t) (λ threads t. with_row threads t (woken_row code)) (wake-follows code) (λ threads t u. row_names threads t u (woken_row code (row_at threads t)) refl) ts s
+    ∙ ap (λ (ready : List ℕ). each_effect (follow_effect code) ts (record s { threads = all_woken code s.threads ts; ready = s.ready ++ ready })) (map-id ts)
 
 each-map : {A B : Type 0} (act : B → State → Effect) (g : A → B) (xs : List A) (s : State) → each_effect act (map g xs) s ≡ each_effect (λ x. act (g x)) xs s
 each-map act g [] s = refl
@@ -92,13 +94,18 @@ fold-map step g (x ∷ xs) c = fold-map step g xs (step c (g x))
 
 -- threads that wake with flags
 pub gives-follow : (flags : ℕ) (ws : List Wanting) (s : State)
-    → each_effect (flags_wake_effect flags) ws s ≡ each_effect (λ (w : ℕ × ℕ). follow_effect Code.Ok w.0) (map (λ (w : Wanting). (w.thread, bit_and flags w.want.mask)) ws) (record s { threads = all_given s.threads (map (λ (w : Wanting). (w.thread, bit_and flags w.want.mask)) ws) })
+    → each_effect (flags_wake_effect flags) ws s ≡ each_effect (λ (w : ℕ × ℕ). follow_effect Code.Ok w.0) (map (λ (w : Wanting). (w.thread, bit_and flags w.want.mask)) ws) (record s { threads = all_given s.threads (map (λ (w : Wanting). (w.thread, bit_and flags w.want.mask)) ws); ready = s.ready ++ map (λ (w : ℕ × ℕ). w.0) (map (λ (w : Wanting). (w.thread, bit_and flags w.want.mask)) ws) })
 gives-follow flags ws s =
     each-follows (flags_wake_effect flags) Code.Ok (λ (w : Wanting). w.thread) rows (λ w u. give-follows (bit_and flags w.want.mask) w.thread u) (λ threads w u. row_names threads w.thread u (given_row (bit_and flags w.want.mask) (row_at threads w.thread)) refl) ws s
-    ∙ ap (λ (threads : List Thread). each_effect (λ (w : Wanting). follow_effect Code.Ok w.thread) ws (record s { threads = threads })) (sym (fold-map (λ (threads : List Thread) (w : ℕ × ℕ). with_row threads w.0 (given_row w.1)) got ws s.threads))
-    ∙ sym (each-map (λ (w : ℕ × ℕ). follow_effect Code.Ok w.0) got ws (record s { threads = all_given s.threads (map got ws) })) where
+    ∙ ap (λ (threads : List Thread). each_effect (λ (w : Wanting). follow_effect Code.Ok w.thread) ws (record s { threads = threads; ready = s.ready ++ map (λ (w : Wanting). w.thread) ws })) (sym (fold-map (λ (threads : List Thread) (w : ℕ × ℕ). with_row threads w.0 (given_row w.1)) got ws s.threads))
+    ∙ ap (λ (ready : List ℕ). each_effect (λ (w : Wanting). follow_effect Code.Ok w.thread) ws (record s { threads = all_given s.threads (map got ws); ready = s.ready ++ ready })) (sym (keys ws))
+    ∙ sym (each-map (λ (w : ℕ × ℕ). follow_effect Code.Ok w.0) got ws (record s { threads = all_given s.threads (map got ws); ready = s.ready ++ map (λ (w : ℕ × ℕ). w.0) (map got ws) })) where
       got : Wanting → ℕ × ℕ
       got w = (w.thread, bit_and flags w.want.mask)
+
+      keys : (us : List Wanting) → map (λ (w : ℕ × ℕ). w.0) (map got us) ≡ map (λ (w : Wanting). w.thread) us
+      keys [] = refl
+      keys (u ∷ us) = ap (λ (ts : List ℕ). u.thread ∷ ts) (keys us)
 
       rows : List Thread → Wanting → List Thread
       rows threads w = with_row threads w.thread (given_row (bit_and flags w.want.mask))

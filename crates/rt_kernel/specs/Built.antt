@@ -6,8 +6,9 @@ use Rattle.rt_plain.specs.declared.board.ThreadDef.{ThreadDef}
 use Rattle.rt_plain.specs.declared.stmt.Call.{Call}
 use Rattle.rt_plain.specs.declared.stmt.Stmt.{Stmt}
 use Rattle.rt_plain.specs.PlainBoard.{PlainBoard}
-use Rattle.rt_plain.specs.kernel.Sound.{IsProper, IsSized}
+use Rattle.rt_plain.specs.kernel.Sound.{IsProper, IsSized, IsLevelled}
 use Rattle.rt_kernel.specs.declared.built.Subject.{Subject}
+use Rattle.ready_list.specs.Depths.{is_depth}
 use Rattle.kernel_tables.specs.Opened.{HasFittingObjects}
 
 -- the objects on which a deletion works, of the classes that are built
@@ -45,9 +46,9 @@ abbrev pub is_built_statement : Stmt → Bool
 is_built_statement (Stmt.Do call) = is_built_call call
 is_built_statement _ = true
 
--- a thread that is bound to no core
+-- a thread with such statements alone
 abbrev pub is_built_thread : ThreadDef → Bool
-is_built_thread def = not (is_some def.core) && list_all is_built_statement def.script
+is_built_thread def = list_all is_built_statement def.script
 
 -- no objects of other classes than these, and nothing arrives
 abbrev pub has_built_classes_alone : PlainBoard → Bool
@@ -66,6 +67,8 @@ is_built b = has_built_classes_alone b && (has_scripts_alone b && list_all is_bu
 pub record IsBuilt (b : PlainBoard) : Type 0 where
   pub proper : IsProper b
   pub sized : IsSized b
+  pub levelled : IsLevelled b
+  pub depth : is_depth b.levels ≡ true
   pub objects : HasFittingObjects b
   pub until : b.until ≤ 1099511627775
   pub few : length b.threads ≤ 256

@@ -1,8 +1,9 @@
 -- Who makes a call, and for which time, as the definitions have it.
-use Rattle.std.specs.Prelude.{ℕ, ◌<◌, ⊤, List, [], slice_get, unwrap_or}
+use Rattle.std.specs.Prelude.{ℕ, ◌≡◌, ◌<◌, false, ⊤, length, List, [], slice_get, unwrap_or}
 use Rattle.std.specs.Option.{option_map}
-use Rattle.rt_plain.specs.kernel.State.{State}
+use Rattle.rt_plain.specs.kernel.State.{State, is_among}
 use Rattle.rt_plain.specs.kernel.Outcome.{By, ByThread, ByTimer, Attempt as PlainAttempt, First, Again}
+use Rattle.kernel_tables.specs.Tabled.{Tabled}
 use Rattle.rt_kernel.specs.declared.caller.Caller.{Caller}
 use Rattle.rt_kernel.specs.declared.caller.Attempt.{Attempt}
 
@@ -20,7 +21,7 @@ abbrev pub plain_attempt : Attempt → PlainAttempt
 plain_attempt Attempt.First = First
 plain_attempt (Attempt.Again due) = Again due
 
--- a thread that makes a call is one of so many
-abbrev pub IsThere : Caller → ℕ → Type 0
-IsThere (Caller.Thread t core) count = t < count
-IsThere (Caller.Timer timer) count = ⊤
+-- a thread that makes a call is there, and runs, so that it isn't ready
+abbrev pub IsThere : Caller → Tabled → Type 0
+IsThere (Caller.Thread t core) k = (t < length k.threads) × (is_among k.ready t ≡ false)
+IsThere (Caller.Timer timer) k = ⊤

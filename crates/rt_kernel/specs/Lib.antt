@@ -1,5 +1,4 @@
 pub mod Answer
-pub mod Best
 pub mod Built
 pub mod Caller
 pub mod Does

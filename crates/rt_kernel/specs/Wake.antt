@@ -4,11 +4,11 @@ use Rattle.rt_base.specs.declared.codes.Code.{Code}
 use Rattle.rt_plain.specs.declared.line.Line.{Line}
 use Rattle.rt_plain.specs.declared.line.Woke.{Woke}
 use Rattle.rt_plain.specs.kernel.State.{State, OfThread}
-use Rattle.rt_plain.specs.kernel.Effects.{Effect, line_effect, name_of, with_ready_last, without_alarm}
+use Rattle.rt_plain.specs.kernel.Effects.{Effect, line_effect, name_of, without_alarm}
 
--- the thread has no armed row, and stands at the end of the ready list
+-- the thread has no armed row
 abbrev pub followed : State → ℕ → State
-followed s t = with_ready_last (without_alarm s (OfThread t)) t
+followed s t = without_alarm s (OfThread t)
 
 -- and its line is shown
 abbrev pub follow_effect : Code → ℕ → State → Effect

@@ -60,7 +60,7 @@ fn are_built_statements(script: &[Stmt]) -> bool
 fn is_built_thread(def: &ThreadDef) -> bool
     ensures { result ≡ is_built_thread def.now }
 {
-    !def.core.is_some() && are_built_statements(def.script.as_slice())
+    are_built_statements(def.script.as_slice())
 }
 
 fn are_built_threads(defs: &[ThreadDef]) -> bool
@@ -91,8 +91,7 @@ pub fn know_built(board: &Board)
     let _sems = &board.sems;
 }
 
-/// Whether the kernel runs the board so far: one core without a shell and without a thread for soft timers, threads that
-/// are bound to no core, no objects besides them but semaphores and event objects, and no statements but those on these.
+/// Whether the kernel runs the board so far: one core without a shell and without a thread for soft timers, no objects besides them but semaphores and event objects, and no statements but those on these.
 pub fn is_built(board: &Board) -> bool
     ensures { result ≡ is_built board.now }
 {

@@ -32,7 +32,7 @@ impl State {
     ) -> Answer
         requires limits { limits_of self.old.tables ≡ board_limits board.now }
         requires subject { subject_of call.now ≡ Some OnEvents }
-        requires there { IsThere by (length self.old.tables.threads) }
+        requires there { IsThere by self.old.tables }
         requires room { HasRoom self.old out.old (1 + length self.old.tables.threads) }
         ensures { Does self.old self.new out.old out.new result (1 + length self.old.tables.threads) (outcome_of board.now call.now (state_of self.old) (plain_by (state_of self.old) by) (plain_attempt attempt)) }
     {
@@ -73,7 +73,7 @@ impl State {
 
     // What a receiver got is the last value of the thread that makes the call.
     fn take_value(&mut self, by: Caller, value: u32)
-        requires { IsThere by (length self.old.tables.threads) }
+        requires { IsThere by self.old.tables }
         ensures state { state_of self.new ≡ with_value (state_of self.old) (plain_by (state_of self.old) by) value }
         ensures limits { limits_of self.new.tables ≡ limits_of self.old.tables }
         ensures threads { length self.new.tables.threads ≡ length self.old.tables.threads }
@@ -95,7 +95,7 @@ impl State {
         timeout: Option<u32>,
         out: &mut Lines,
     ) -> Answer
-        requires there { IsThere by (length self.old.tables.threads) }
+        requires there { IsThere by self.old.tables }
         requires room { HasRoom self.old out.old 0 }
         ensures { Does self.old self.new out.old out.new result 0 (event_recv name.now (plain_want want) timeout (state_of self.old) (plain_by (state_of self.old) by)) }
     {

@@ -2,14 +2,16 @@ ghost use Rattle.std.specs.Prelude.{◌≡◌, ◌+◌, ◌<◌, true, length};
 ghost use Rattle.rt_plain.specs.declared.line.Line.TheVariants.{Done as DoneLine, Again as AgainLine, Fire as FireLine};
 ghost use Rattle.rt_plain.specs.kernel.Effects.{name_of};
 ghost use Rattle.rt_plain.specs.kernel.Outcome.{ByThread, ByTimer, First, Again};
-ghost use Rattle.rt_plain.specs.kernel.Calls.{outcome_of};
+ghost use Rattle.rt_plain.specs.kernel.Sound.{is_levelled_call};
 ghost use Rattle.rt_plain.specs.kernel.Statements.{with_answer};
 ghost use Rattle.rt_plain.specs.kernel.Due.{timer_call_effect};
 ghost use Rattle.rt_kernel.specs.Answer.{plain_answer};
 ghost use Rattle.rt_kernel.specs.Built.{is_built_call};
 ghost use Rattle.rt_kernel.specs.Caller.{plain_by, plain_attempt, timer_name, IsThere};
 ghost use Rattle.rt_kernel.specs.Does.{Does, Acts, headed};
+ghost use Rattle.rt_kernel.specs.declared.caller.Caller.TheVariants.{Thread as CallerOn};
 ghost use Rattle.rt_kernel.specs.HasRoom.{HasRoom};
+ghost use Rattle.rt_kernel.specs.NewBase.{moved_outcome};
 ghost use Rattle.rt_kernel.specs.Limits.{limits_of, board_limits};
 ghost use Rattle.rt_kernel.specs.View.{state_of};
 
@@ -22,6 +24,7 @@ use rt_plain::{Board, Call, Line, Lines};
 
 impl State {
     // What a call does, without its line.
+    #[tactic(auto, using(crate::proofs::NextCallLemmas::sem_moves, crate::proofs::NextCallLemmas::event_moves))]
     fn act(
         &mut self,
         board: &Board,
@@ -31,10 +34,11 @@ impl State {
         out: &mut Lines,
     ) -> Answer
         requires built { is_built_call call.now ≡ true }
+        requires level { is_levelled_call self.old.tables.levels call.now ≡ true }
         requires limits { limits_of self.old.tables ≡ board_limits board.now }
-        requires there { IsThere by (length self.old.tables.threads) }
+        requires there { IsThere by self.old.tables }
         requires room { HasRoom self.old out.old (1 + length self.old.tables.threads) }
-        ensures { Does self.old self.new out.old out.new result (1 + length self.old.tables.threads) (outcome_of board.now call.now (state_of self.old) (plain_by (state_of self.old) by) (plain_attempt attempt)) }
+        ensures { Does self.old self.new out.old out.new result (1 + length self.old.tables.threads) (moved_outcome board.now call.now (state_of self.old) (plain_by (state_of self.old) by) (plain_attempt attempt)) }
     {
         match subject_of(call) {
             Some(Subject::Thread) => self.thread_call(board, by, attempt, call, out),
@@ -69,10 +73,11 @@ impl State {
         out: &mut Lines,
     ) -> Answer
         requires built { is_built_call call.now ≡ true }
+        requires level { is_levelled_call self.old.tables.levels call.now ≡ true }
         requires limits { limits_of self.old.tables ≡ board_limits board.now }
-        requires there { t < length self.old.tables.threads }
+        requires there { IsThere (CallerOn t core) self.old.tables }
         requires room { HasRoom self.old out.old (2 + length self.old.tables.threads) }
-        ensures { Does self.old self.new out.old out.new result (2 + length self.old.tables.threads) (headed t (DoneLine (name_of (state_of self.old) t) k) (outcome_of board.now call.now (state_of self.old) (ByThread t core) First)) }
+        ensures { Does self.old self.new out.old out.new result (2 + length self.old.tables.threads) (headed t (DoneLine (name_of (state_of self.old) t) k) (moved_outcome board.now call.now (state_of self.old) (ByThread t core) First)) }
     {
         let name = self.name_of(t);
         let place = out.len();
@@ -96,10 +101,11 @@ impl State {
         out: &mut Lines,
     ) -> Answer
         requires built { is_built_call call.now ≡ true }
+        requires level { is_levelled_call self.old.tables.levels call.now ≡ true }
         requires limits { limits_of self.old.tables ≡ board_limits board.now }
-        requires there { t < length self.old.tables.threads }
+        requires there { IsThere (CallerOn t core) self.old.tables }
         requires room { HasRoom self.old out.old (2 + length self.old.tables.threads) }
-        ensures { Does self.old self.new out.old out.new result (2 + length self.old.tables.threads) (headed t (AgainLine (name_of (state_of self.old) t) k) (outcome_of board.now call.now (state_of self.old) (ByThread t core) (Again due))) }
+        ensures { Does self.old self.new out.old out.new result (2 + length self.old.tables.threads) (headed t (AgainLine (name_of (state_of self.old) t) k) (moved_outcome board.now call.now (state_of self.old) (ByThread t core) (Again due))) }
     {
         let name = self.name_of(t);
         let place = out.len();
@@ -126,9 +132,10 @@ impl State {
         out: &mut Lines,
     )
         requires built { is_built_call call.now ≡ true }
+        requires level { is_levelled_call self.old.tables.levels call.now ≡ true }
         requires limits { limits_of self.old.tables ≡ board_limits board.now }
         requires room { HasRoom self.old out.old (2 + length self.old.tables.threads) }
-        ensures { Acts self.old self.new out.old out.new (2 + length self.old.tables.threads) (timer_call_effect (FireLine name.now) (outcome_of board.now call.now (state_of self.old) (ByTimer (timer_name (state_of self.old) timer)) First)) }
+        ensures { Acts self.old self.new out.old out.new (2 + length self.old.tables.threads) (timer_call_effect (FireLine name.now) (moved_outcome board.now call.now (state_of self.old) (ByTimer (timer_name (state_of self.old) timer)) First)) }
     {
         let place = out.len();
         let answer = self.act(board, Caller::Timer(timer), Attempt::First, call, out);

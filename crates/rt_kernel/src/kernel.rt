@@ -21,7 +21,7 @@ ghost use Rattle.rt_kernel.specs.IsKernel.{frame_of, IsInOrder};
 ghost use Rattle.rt_kernel.specs.NextCall.{begun};
 ghost use Rattle.rt_kernel.specs.Plain.{is_plain};
 ghost use Rattle.rt_kernel.specs.PlainKernel.{DoesNext, MayCall, IsAlone};
-ghost use Rattle.rt_kernel.specs.Switched.{switched, effect_or, AreNumbers};
+ghost use Rattle.rt_kernel.specs.Switched.{switched, effect_or, IsOnCore};
 ghost use Rattle.kernel_tables.specs.Threads.{row_at, ArePlain};
 ghost use Rattle.rt_kernel.specs.View.{state_of};
 
@@ -62,12 +62,10 @@ fn know_state(board: &Board, state: &State)
     requires built { IsBuilt board.now }
     requires kept { Kept (frame_of board.now (state_of state.now)) (state_of state.now) }
     ensures count { length state.now.tables.threads ≡ length board.now.threads }
-    ensures ready { length state.now.ready ≤ 256 }
     ensures armed { length state.now.armed ≤ 256 }
     ensures moment { state.now.moment ≤ 1099511627775 }
-    ensures there { AreNumbers state.now.tables.threads state.now.ready }
-    ensures once { (u : ℕ) → length (filter (λ v. v == u) state.now.ready) ≤ 1 }
-    ensures running { IfSome state.now.running (λ r. r < length state.now.tables.threads) }
+    ensures once { (u : ℕ) → length (filter (λ v. v == u) state.now.tables.ready) ≤ 1 }
+    ensures running { IfSome state.now.running (λ r. IsOnCore state.now.tables r) }
     ensures next { (r : ℕ) → state.now.running ≡ Some r → (row_at state.now.tables.threads r).next < 2 ^ 16 - 1 }
 {
     let _board = board;
@@ -166,7 +164,7 @@ impl Kernel {
     pub fn all_idle(&self) -> bool
         ensures { result ≡ is_all_idle self.now.state }
     {
-        self.state.ready.len() == 0 && !self.state.running.is_some()
+        self.state.tables.is_idle() && !self.state.running.is_some()
     }
 
     /// Whether nothing is armed.
@@ -198,7 +196,7 @@ impl Kernel {
         ensures out_room { out.new.room ≡ out.old.room }
     {
         know_state(&self.board, &self.state);
-        self.state.switch(out)
+        self.state.switch(out, steps)
     }
 
     /// The mark of a core's thread, as before each of its statements: it goes, unless the thread has a scheduler lock.

@@ -18,17 +18,14 @@ impl State {
         ensures state { IfOk result (λ k. state_of k ≡ open_state board.now) }
         ensures limits { IfOk result (λ k. limits_of k.tables ≡ board_limits board.now) }
     {
-        let mut ready = ThreadList::new(alloc)?;
         let armed = ArmedRows::new(alloc)?;
         let waited = ThreadList::new(alloc)?;
         let woken = WokenThreads::new(alloc)?;
         let tables = Tables::open(alloc, board)?;
-        tables.threads().start(&mut ready);
         Ok(State {
             moment: 0,
             numbers: 0,
             tables,
-            ready,
             running: None,
             armed,
             waited,

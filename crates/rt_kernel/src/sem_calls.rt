@@ -30,7 +30,7 @@ impl State {
     ) -> Answer
         requires limits { limits_of self.old.tables ≡ board_limits board.now }
         requires subject { subject_of call.now ≡ Some OnSems }
-        requires there { IsThere by (length self.old.tables.threads) }
+        requires there { IsThere by self.old.tables }
         requires room { HasRoom self.old out.old (1 + length self.old.tables.threads) }
         ensures { Does self.old self.new out.old out.new result (1 + length self.old.tables.threads) (outcome_of board.now call.now (state_of self.old) (plain_by (state_of self.old) by) (plain_attempt attempt)) }
     {
@@ -67,7 +67,7 @@ impl State {
 
     // The semaphore's value is one less, or the thread waits.
     fn sem_take(&mut self, by: Caller, name: &Name, timeout: Option<u32>, out: &mut Lines) -> Answer
-        requires there { IsThere by (length self.old.tables.threads) }
+        requires there { IsThere by self.old.tables }
         requires room { HasRoom self.old out.old 0 }
         ensures { Does self.old self.new out.old out.new result 0 (sem_take name.now timeout (state_of self.old) (plain_by (state_of self.old) by)) }
     {

@@ -1,16 +1,17 @@
-ghost use Rattle.std.specs.Prelude.{◌≡◌, ◌+◌, ◌<◌, ◌≤◌, ◌^◌, ◌-◌, ◌==◌, ℕ, true, length, filter, IfSome};
+ghost use Rattle.std.specs.Prelude.{◌≡◌, ◌+◌, ◌<◌, ◌≤◌, ◌^◌, ◌-◌, ◌==◌, ℕ, true, false, length, filter, IfSome};
+ghost use Rattle.rt_plain.specs.kernel.Sound.{is_levelled_call};
+ghost use Rattle.rt_plain.specs.kernel.State.{is_among};
 ghost use Rattle.rt_kernel.specs.Built.{is_built_call};
 ghost use Rattle.rt_kernel.specs.Does.{Does, Acts};
 ghost use Rattle.rt_kernel.specs.HasRoom.{HasRoom};
 ghost use Rattle.rt_kernel.specs.Limits.{limits_of, board_limits};
-ghost use Rattle.rt_kernel.specs.NewBase.{moved_last, new_base, settle_effect};
+ghost use Rattle.rt_kernel.specs.NewBase.{new_base, shown_effect};
 ghost use Rattle.rt_kernel.specs.NextCall.{settled_call};
 ghost use Rattle.kernel_tables.specs.Threads.{row_at};
 ghost use Rattle.rt_kernel.specs.View.{state_of};
 
 use crate::answer::Answer;
 use crate::state::State;
-use kernel_tables::ThreadList;
 use rt_base::{CoreNo, Prio, ThreadNo};
 use rt_plain::{Board, Call, Line, Lines};
 
@@ -20,17 +21,6 @@ pub struct NewBase {
     pub thread: ThreadNo,
     pub old: Prio,
     pub new: Prio,
-}
-
-// The thread goes to the end of a list, if it stands in the list.
-fn move_last(list: &mut ThreadList, t: ThreadNo)
-    requires { length list.old < 512 }
-    ensures { list.new ≡ moved_last t list.old }
-{
-    if list.holds(t) {
-        list.remove(t);
-        list.push_last(t);
-    }
 }
 
 impl State {
@@ -51,17 +41,15 @@ impl State {
         Some(NewBase { thread, old, new })
     }
 
-    // What follows from another base priority: its line is shown, and the thread goes to the end of the ready list.
+    // What follows from another base priority: its line is shown. The tables have moved the thread already.
     fn settle(&mut self, change: Option<NewBase>, out: &mut Lines)
         requires there { IfSome change (λ change. change.thread < length self.old.tables.threads) }
-        requires ready { IfSome change (λ change. length self.old.ready < 512) }
         requires lines { IfSome change (λ change. length out.old.items < out.old.room) }
-        ensures acts { Acts self.old self.new out.old out.new 1 (settle_effect change (state_of self.old)) }
+        ensures acts { Acts self.old self.new out.old out.new 1 (shown_effect change (state_of self.old)) }
         ensures numbers { self.new.numbers ≡ self.old.numbers }
     {
         if let Some(change) = change {
             out.push(Line::Cur(self.name_of(change.thread), change.old, change.new));
-            move_last(&mut self.ready, change.thread);
         }
     }
 
@@ -77,8 +65,10 @@ impl State {
         requires built { is_built_call call.now ≡ true }
         requires limits { limits_of self.old.tables ≡ board_limits board.now }
         requires there { t < length self.old.tables.threads }
+        requires unready { is_among self.old.tables.ready t ≡ false }
+        requires level { is_levelled_call self.old.tables.levels call.now ≡ true }
         requires next { (row_at self.old.tables.threads t).next < 2 ^ 16 - 1 }
-        requires once { (u : ℕ) → length (filter (λ v. v == u) self.old.ready) ≤ 1 }
+        requires once { (u : ℕ) → length (filter (λ v. v == u) self.old.tables.ready) ≤ 1 }
         requires room { HasRoom self.old out.old (2 + length self.old.tables.threads) }
         ensures { Does self.old self.new out.old out.new result (2 + length self.old.tables.threads) (settled_call board.now t core call.now (state_of self.old)) }
     {

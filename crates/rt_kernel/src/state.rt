@@ -1,7 +1,8 @@
-ghost use Rattle.std.specs.Prelude.{◌≡◌, ◌+◌, ◌<◌, ◌≤◌, ◌^◌, ◌++◌, ◌∷◌, [], length, Some, None, true, ◌==◌};
+ghost use Rattle.std.specs.Prelude.{◌≡◌, ◌+◌, ◌<◌, ◌≤◌, ◌^◌, ◌++◌, ◌∷◌, [], length, Some, None, true, false, ◌==◌};
 ghost use Rattle.rt_plain.specs.declared.line.Line.TheVariants.{Wake as WakeLine};
 ghost use Rattle.rt_plain.specs.declared.line.Woke.TheVariants.{Code as WokeCode};
-ghost use Rattle.rt_plain.specs.kernel.State.{InCall};
+ghost use Rattle.rt_plain.specs.kernel.Sound.{is_active};
+ghost use Rattle.rt_plain.specs.kernel.State.{InCall, is_among};
 ghost use Rattle.rt_plain.specs.kernel.Effects.{name_of, without_core, waiting_state, active_state, wake_effect};
 ghost use Rattle.rt_plain.specs.kernel.ThreadCalls.{start_effect, suspended_state};
 ghost use Rattle.rt_plain.specs.kernel.Owners.{close_effect, withdrawn_state};
@@ -9,10 +10,11 @@ ghost use Rattle.rt_kernel.specs.Wake.{followed};
 ghost use Rattle.rt_kernel.specs.Does.{Acts};
 ghost use Rattle.rt_kernel.specs.Limits.{limits_of};
 ghost use Rattle.kernel_tables.specs.Tabled.{knows};
+ghost use Rattle.kernel_tables.specs.Threads.{row_at};
 ghost use Rattle.rt_kernel.specs.View.{state_of};
 
 use crate::armed::{Armed, ArmedRows};
-use kernel_tables::{Stage, Tables, ThreadList, WokenThreads};
+use kernel_tables::{Tables, ThreadList, WokenThreads};
 use rt_base::{Code, Name, ThreadNo};
 use rt_plain::{Call, Line, Lines, Woke};
 
@@ -23,7 +25,6 @@ pub struct State {
     pub moment: u64,
     pub numbers: u64,
     pub tables: Tables,
-    pub ready: ThreadList,
     pub running: Option<ThreadNo>,
     pub armed: ArmedRows,
     pub waited: ThreadList,
@@ -43,7 +44,6 @@ impl State {
     pub fn leave_core(&mut self, t: ThreadNo)
         ensures state { state_of self.new ≡ without_core (state_of self.old) t }
         ensures tables { self.new.tables ≡ self.old.tables }
-        ensures ready { self.new.ready ≡ self.old.ready }
         ensures armed { self.new.armed ≡ self.old.armed }
         ensures numbers { self.new.numbers ≡ self.old.numbers }
     {
@@ -57,32 +57,18 @@ impl State {
     // The thread is active again, without an armed row, at the end of the ready list.
     pub fn activate(&mut self, t: ThreadNo)
         requires there { t < length self.old.tables.threads }
-        requires room { length self.old.ready < 512 }
+        requires idle { is_active (row_at self.old.tables.threads t).stage ≡ false }
         ensures state { state_of self.new ≡ active_state (state_of self.old) t }
         ensures limits { limits_of self.new.tables ≡ limits_of self.old.tables }
     {
-        self.tables.stand(t, Stage::Active);
-        self.enter_ready(t);
-    }
-
-    // The thread is without an armed row, at the end of the ready list.
-    fn enter_ready(&mut self, thread: ThreadNo)
-        requires room { length self.old.ready < 512 }
-        ensures state { state_of self.new ≡ followed (state_of self.old) thread }
-        ensures tables { self.new.tables ≡ self.old.tables }
-        ensures waited { self.new.waited ≡ self.old.waited }
-        ensures woken { self.new.woken ≡ self.old.woken }
-        ensures numbers { self.new.numbers ≡ self.old.numbers }
-        ensures ready { length self.new.ready ≡ length self.old.ready + 1 }
-    {
-        self.armed.remove(thread);
-        self.ready.push_last(thread);
+        self.tables.activate(t);
+        self.armed.remove(t);
     }
 
     // An initial thread becomes ready.
     pub fn start(&mut self, t: ThreadNo, out: &mut Lines)
         requires there { t < length self.old.tables.threads }
-        requires room { length self.old.ready < 512 }
+        requires idle { is_active (row_at self.old.tables.threads t).stage ≡ false }
         requires lines { length out.old.items < out.old.room }
         ensures { Acts self.old self.new out.old out.new 1 (start_effect t (state_of self.old)) }
     {
@@ -93,7 +79,7 @@ impl State {
     // The thread wakes with a code.
     pub fn wake(&mut self, t: ThreadNo, code: Code, out: &mut Lines)
         requires there { t < length self.old.tables.threads }
-        requires room { length self.old.ready < 512 }
+        requires idle { is_active (row_at self.old.tables.threads t).stage ≡ false }
         requires lines { length out.old.items < out.old.room }
         ensures { Acts self.old self.new out.old out.new 1 (wake_effect code t (state_of self.old)) }
     {
@@ -102,10 +88,9 @@ impl State {
         self.activate(t);
     }
 
-    // The tables have woken the thread: this is shown, and it is without an armed row, at the end of the ready list.
+    // The tables have woken the thread: this is shown, and it is without an armed row.
     pub fn follow(&mut self, t: ThreadNo, code: Code, out: &mut Lines)
         requires there { t < length self.old.tables.threads }
-        requires room { length self.old.ready < 512 }
         requires lines { length out.old.items < out.old.room }
         ensures state { state_of self.new ≡ followed (state_of self.old) t }
         ensures lines { out.new.items ≡ out.old.items ++ WakeLine (name_of (state_of self.old) t) (WokeCode code) ∷ [] }
@@ -114,16 +99,16 @@ impl State {
         ensures woken { self.new.woken ≡ self.old.woken }
         ensures numbers { self.new.numbers ≡ self.old.numbers }
         ensures moment { self.new.moment ≡ self.old.moment }
-        ensures ready { length self.new.ready ≡ length self.old.ready + 1 }
         ensures out_room { out.new.room ≡ out.old.room }
     {
         out.push(Line::Wake(self.tables.threads().name(t), Woke::Code(code)));
-        self.enter_ready(t);
+        self.armed.remove(t);
     }
 
     // The thread waits in a call, until a moment if one is given.
     pub fn wait(&mut self, t: ThreadNo, call: Call, due: Option<u64>)
         requires there { t < length self.old.tables.threads }
+        requires unready { is_among self.old.tables.ready t ≡ false }
         requires room { length self.old.armed < 512 }
         requires number { self.old.numbers + 2 < 2 ^ 64 }
         requires known { knows self.old.tables call ≡ true }
@@ -150,8 +135,7 @@ impl State {
         ensures state { state_of self.new ≡ suspended_state (state_of self.old) t }
         ensures limits { limits_of self.new.tables ≡ limits_of self.old.tables }
     {
-        self.tables.stand(t, Stage::Suspended);
-        self.ready.remove(t);
+        self.tables.suspend(t);
         self.leave_core(t);
     }
 
@@ -163,7 +147,6 @@ impl State {
     {
         self.tables.close(t);
         self.leave_core(t);
-        self.ready.remove(t);
         self.armed.remove(t);
     }
 

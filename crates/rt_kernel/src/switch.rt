@@ -1,49 +1,29 @@
-ghost use Rattle.std.specs.Prelude.{◌≡◌, ◌+◌, ◌<◌, ◌≤◌, length, Some, None, IfSome, is_some};
+ghost use Rattle.std.specs.Prelude.{◌≡◌, ◌+◌, ◌<◌, ◌≤◌, length, true, false, Some, None, IfSome, is_some};
 ghost use Rattle.rt_plain.specs.kernel.Pick.{pick};
 ghost use Rattle.rt_plain.specs.kernel.Steps.{with_running, preempted_state, is_preemptible, takes_from};
-ghost use Rattle.rt_kernel.specs.Best.{better, base_of};
+ghost use Rattle.rt_plain.specs.kernel.Sound.{is_active};
+ghost use Rattle.rt_plain.specs.kernel.State.{is_among};
+ghost use Rattle.kernel_tables.specs.Threads.{row_at};
 ghost use Rattle.rt_kernel.specs.Does.{Acts};
 ghost use Rattle.rt_kernel.specs.Limits.{limits_of};
-ghost use Rattle.rt_kernel.specs.Switched.{switched, effect_or, run_effect, preempt_effect, AreNumbers};
+ghost use Rattle.rt_kernel.specs.Switched.{switched, effect_or, run_effect, preempt_effect, IsOnCore};
 ghost use Rattle.rt_kernel.specs.View.{state_of};
 
 use crate::state::State;
-use rt_base::ThreadNo;
+use rt_base::{CoreNo, Steps, ThreadNo};
 use rt_plain::{Line, Lines};
+use std::sync::ledger::Ledger;
 
 impl State {
-    // The better one of what was found and a further thread.
-    fn better(&self, found: Option<ThreadNo>, t: ThreadNo) -> Option<ThreadNo>
-        requires there { t < length self.now.tables.threads }
-        requires found { IfSome found (λ u. u < length self.now.tables.threads) }
-        ensures is { result ≡ better (base_of (state_of self.now)) found t }
+    // The thread that a core takes next.
+    #[tactic(auto, using(crate::proofs::PickLemmas::picks))]
+    pub fn pick<L: Ledger>(&self, core: CoreNo, steps: &mut Steps<L>) -> Option<ThreadNo>
+        requires { core < self.now.tables.cores }
+        ensures is { result ≡ pick (state_of self.now) core }
         ensures there { IfSome result (λ u. u < length self.now.tables.threads) }
+        ensures cost { steps.new ≤ steps.old + 8 }
     {
-        match found {
-            None => Some(t),
-            Some(u) => {
-                if self.tables.threads().base(t).0 < self.tables.threads().base(u).0 {
-                    Some(t)
-                } else {
-                    Some(u)
-                }
-            }
-        }
-    }
-
-    // The thread that the core takes next.
-    #[tactic(auto, using(crate::proofs::PickLemmas::picking))]
-    pub fn pick(&self) -> Option<ThreadNo>
-        requires { AreNumbers self.now.tables.threads self.now.ready }
-        ensures is { result ≡ pick (state_of self.now) 0 }
-        ensures there { IfSome result (λ u. u < length self.now.tables.threads) }
-    {
-        self.tables.threads().know_plain();
-        let mut found = None;
-        for i in 0..self.ready.len() {
-            found = self.better(found, self.ready.at(i));
-        }
-        found
+        self.tables.pick(core, steps)
     }
 
     // Whether a running thread may be preempted: it has no scheduler lock.
@@ -68,26 +48,29 @@ impl State {
 
     // The core runs the thread.
     fn run(&mut self, p: ThreadNo)
+        requires { p < length self.old.tables.threads }
         ensures state { state_of self.new ≡ with_running (state_of self.old) 0 p }
         ensures limits { limits_of self.new.tables ≡ limits_of self.old.tables }
     {
-        self.ready.remove(p);
+        self.tables.leave_ready(p);
         self.running = Some(p);
     }
 
     // The running thread leaves for the end of the ready list if it is marked, and else for its front.
     fn preempt(&mut self, r: ThreadNo)
         requires there { r < length self.old.tables.threads }
-        requires room { length self.old.ready < 512 }
+        requires active { is_active (row_at self.old.tables.threads r).stage ≡ true }
+        requires unready { is_among self.old.tables.ready r ≡ false }
         ensures state { state_of self.new ≡ preempted_state (state_of self.old) r }
+        ensures threads { length self.new.tables.threads ≡ length self.old.tables.threads }
         ensures limits { limits_of self.new.tables ≡ limits_of self.old.tables }
     {
         let marked = self.tables.threads().is_marked(r);
         self.tables.unmark(r);
         if marked {
-            self.ready.push_last(r);
+            self.tables.enter_last(r);
         } else {
-            self.ready.push_first(r);
+            self.tables.enter_first(r);
         }
     }
 
@@ -105,7 +88,8 @@ impl State {
     fn run_instead(&mut self, r: ThreadNo, p: ThreadNo, out: &mut Lines)
         requires p { p < length self.old.tables.threads }
         requires r { r < length self.old.tables.threads }
-        requires room { length self.old.ready < 512 }
+        requires active { is_active (row_at self.old.tables.threads r).stage ≡ true }
+        requires unready { is_among self.old.tables.ready r ≡ false }
         requires lines { length out.old.items + 2 ≤ out.old.room }
         ensures { Acts self.old self.new out.old out.new 2 (preempt_effect (state_of self.old) 0 r p) }
     {
@@ -119,16 +103,15 @@ impl State {
     }
 
     // The core takes a thread, if one may run there: true where it did.
-    pub fn switch(&mut self, out: &mut Lines) -> bool
-        requires ready { AreNumbers self.old.tables.threads self.old.ready }
-        requires running { IfSome self.old.running (λ r. r < length self.old.tables.threads) }
-        requires room { length self.old.ready < 512 }
+    pub fn switch<L: Ledger>(&mut self, out: &mut Lines, steps: &mut Steps<L>) -> bool
+        requires core { 0 < self.old.tables.cores }
+        requires running { IfSome self.old.running (λ r. IsOnCore self.old.tables r) }
         requires lines { length out.old.items + 2 ≤ out.old.room }
         ensures answer { result ≡ is_some (switched (state_of self.old) 0) }
         ensures acts { Acts self.old self.new out.old out.new 2 (effect_or (state_of self.old) (switched (state_of self.old) 0)) }
         ensures numbers { self.new.numbers ≡ self.old.numbers }
     {
-        let Some(p) = self.pick() else {
+        let Some(p) = self.pick(CoreNo(0), steps) else {
             return false;
         };
         match self.running {

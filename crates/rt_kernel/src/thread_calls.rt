@@ -1,12 +1,13 @@
-ghost use Rattle.std.specs.Prelude.{◌≡◌, ◌+◌, ◌<◌, Some, IfSome, length};
+ghost use Rattle.std.specs.Prelude.{◌≡◌, ◌+◌, ◌<◌, true, Some, IfSome, length};
 ghost use Rattle.rt_plain.specs.kernel.State.{find_thread};
-ghost use Rattle.rt_plain.specs.kernel.Calls.{outcome_of};
+ghost use Rattle.rt_plain.specs.kernel.Sound.{is_levelled_call};
 ghost use Rattle.rt_plain.specs.kernel.ThreadCalls.{delay, yield as yield_call, startup, suspend as suspend_call, resume, kill, set_prio, sched_lock, sched_unlock, may_suspend};
 ghost use Rattle.rt_kernel.specs.declared.built.Subject.TheVariants.{Thread as OnThreads};
 ghost use Rattle.rt_kernel.specs.Built.{subject_of};
 ghost use Rattle.rt_kernel.specs.Caller.{plain_by, plain_attempt, IsThere};
 ghost use Rattle.rt_kernel.specs.Does.{Does};
 ghost use Rattle.rt_kernel.specs.HasRoom.{HasRoom};
+ghost use Rattle.rt_kernel.specs.NewBase.{changed_base, moved_by, moved_outcome};
 ghost use Rattle.rt_kernel.specs.View.{state_of};
 
 use crate::answer::Answer;
@@ -26,9 +27,10 @@ impl State {
         out: &mut Lines,
     ) -> Answer
         requires subject { subject_of call.now ≡ Some OnThreads }
-        requires there { IsThere by (length self.old.tables.threads) }
+        requires level { is_levelled_call self.old.tables.levels call.now ≡ true }
+        requires there { IsThere by self.old.tables }
         requires room { HasRoom self.old out.old (1 + length self.old.tables.threads) }
-        ensures { Does self.old self.new out.old out.new result (1 + length self.old.tables.threads) (outcome_of board.now call.now (state_of self.old) (plain_by (state_of self.old) by) (plain_attempt attempt)) }
+        ensures { Does self.old self.new out.old out.new result (1 + length self.old.tables.threads) (moved_outcome board.now call.now (state_of self.old) (plain_by (state_of self.old) by) (plain_attempt attempt)) }
     {
         let _board = board;
         match call {
@@ -55,7 +57,7 @@ impl State {
 
     // A delay of so many ticks.
     fn delay(&mut self, by: Caller, ticks: u32, out: &mut Lines) -> Answer
-        requires there { IsThere by (length self.old.tables.threads) }
+        requires there { IsThere by self.old.tables }
         requires room { HasRoom self.old out.old 0 }
         ensures { Does self.old self.new out.old out.new result 0 (delay ticks (state_of self.old) (plain_by (state_of self.old) by)) }
     {
@@ -68,7 +70,7 @@ impl State {
 
     // A whole slice again, and the mark.
     fn yield_now(&mut self, by: Caller, out: &mut Lines) -> Answer
-        requires there { IsThere by (length self.old.tables.threads) }
+        requires there { IsThere by self.old.tables }
         ensures { Does self.old self.new out.old out.new result 0 (yield_call (state_of self.old) (plain_by (state_of self.old) by)) }
     {
         let Caller::Thread(t, _) = by else {
@@ -82,6 +84,7 @@ impl State {
     }
 
     // An initial thread of this name becomes ready.
+    #[tactic(auto, using(crate::proofs::StageLemmas::initial_idle))]
     fn startup(&mut self, name: &Name, out: &mut Lines) -> Answer
         requires room { HasRoom self.old out.old 1 }
         ensures { Does self.old self.new out.old out.new result 1 (startup name.now (state_of self.old)) }
@@ -98,7 +101,8 @@ impl State {
 
     // Whether the caller may suspend a thread: itself where it may wait, another one where it is ready.
     fn may_suspend(&self, by: Caller, u: ThreadNo) -> bool
-        requires { IsThere by (length self.now.tables.threads) }
+        requires by { IsThere by self.now.tables }
+        requires there { u < length self.now.tables.threads }
         ensures { result ≡ may_suspend (state_of self.now) (plain_by (state_of self.now) by) u }
     {
         if let Caller::Thread(t, core) = by {
@@ -106,12 +110,12 @@ impl State {
                 return !self.may_not_wait(t, core);
             }
         }
-        self.ready.holds(u)
+        self.tables.is_ready(u)
     }
 
     // The thread of this name is suspended.
     fn suspend_named(&mut self, by: Caller, name: &Name, out: &mut Lines) -> Answer
-        requires there { IsThere by (length self.old.tables.threads) }
+        requires there { IsThere by self.old.tables }
         ensures { Does self.old self.new out.old out.new result 0 (suspend_call name.now (state_of self.old) (plain_by (state_of self.old) by)) }
     {
         let Some(u) = self.find_thread(name) else {
@@ -125,6 +129,7 @@ impl State {
     }
 
     // The suspended or waiting thread of this name becomes ready.
+    #[tactic(auto, using(crate::proofs::StageLemmas::suspended_idle, crate::proofs::StageLemmas::waiting_idle))]
     fn resume(&mut self, name: &Name, out: &mut Lines) -> Answer
         requires room { HasRoom self.old out.old 1 }
         ensures { Does self.old self.new out.old out.new result 1 (resume name.now (state_of self.old)) }
@@ -157,7 +162,8 @@ impl State {
 
     // The thread of this name has another base priority.
     fn set_prio(&mut self, name: &Name, prio: Prio, out: &mut Lines) -> Answer
-        ensures { Does self.old self.new out.old out.new result 0 (set_prio name.now prio (state_of self.old)) }
+        requires { prio < self.old.tables.levels }
+        ensures { Does self.old self.new out.old out.new result 0 (moved_by (changed_base (state_of self.old) (find_thread (state_of self.old) name.now) prio) (set_prio name.now prio (state_of self.old))) }
     {
         let Some(u) = self.find_thread(name) else {
             return Answer::Code(Code::Inval);
@@ -168,7 +174,7 @@ impl State {
 
     // One scheduler lock of the thread more, up to 255.
     fn sched_lock(&mut self, by: Caller, out: &mut Lines) -> Answer
-        requires there { IsThere by (length self.old.tables.threads) }
+        requires there { IsThere by self.old.tables }
         ensures { Does self.old self.new out.old out.new result 0 (sched_lock (state_of self.old) (plain_by (state_of self.old) by)) }
     {
         let Caller::Thread(t, _) = by else {
@@ -185,7 +191,7 @@ impl State {
 
     // One scheduler lock of the thread less.
     fn sched_unlock(&mut self, by: Caller, out: &mut Lines) -> Answer
-        requires there { IsThere by (length self.old.tables.threads) }
+        requires there { IsThere by self.old.tables }
         ensures { Does self.old self.new out.old out.new result 0 (sched_unlock (state_of self.old) (plain_by (state_of self.old) by)) }
     {
         let Caller::Thread(t, _) = by else {

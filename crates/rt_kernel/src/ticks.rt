@@ -1,4 +1,4 @@
-ghost use Rattle.std.specs.Prelude.{◌≡◌, ◌+◌, ◌<◌, ◌≤◌, ◌^◌, ◌-◌, ◌++◌, length, Some, IfSome};
+ghost use Rattle.std.specs.Prelude.{◌≡◌, ◌+◌, ◌<◌, ◌≤◌, ◌^◌, ◌-◌, ◌++◌, length, false, Some, IfSome};
 ghost use Rattle.std.specs.Option.{option_map};
 ghost use Rattle.rt_plain.specs.kernel.State.{OfThread};
 ghost use Rattle.rt_plain.specs.kernel.Due.{due, timeout_effect};
@@ -6,6 +6,8 @@ ghost use Rattle.rt_plain.specs.kernel.Ticks.{next_tick_state};
 ghost use Rattle.rt_kernel.specs.Due.{first_alarm, taken};
 ghost use Rattle.rt_kernel.specs.Does.{Acts};
 ghost use Rattle.rt_kernel.specs.Limits.{limits_of};
+ghost use Rattle.rt_plain.specs.kernel.Sound.{is_active};
+ghost use Rattle.kernel_tables.specs.Threads.{row_at};
 ghost use Rattle.rt_kernel.specs.View.{state_of};
 
 use crate::state::State;
@@ -41,7 +43,7 @@ impl State {
     // The row of a thread fires: the thread leaves its wait.
     pub fn fire(&mut self, t: ThreadNo, out: &mut Lines)
         requires there { t < length self.old.tables.threads }
-        requires room { length self.old.ready < 512 }
+        requires idle { is_active (row_at self.old.tables.threads t).stage ≡ false }
         requires lines { length out.old.items + 2 ≤ out.old.room }
         ensures acts { Acts self.old self.new out.old out.new 2 (timeout_effect t (state_of self.old)) }
         ensures numbers { self.new.numbers ≡ self.old.numbers }

@@ -49,7 +49,7 @@ impl State {
             cur: self.tables.threads().base(t),
             base: self.tables.threads().base(t),
             state: self.tables.threads().state(t, self.is_running(t)),
-            core: None,
+            core: self.tables.threads().core(t),
             left: self.tables.threads().left(t),
             code: self.tables.threads().code(t),
         }

@@ -1,6 +1,6 @@
-ghost use Rattle.std.specs.Prelude.{◌≡◌, ◌+◌, ◌<◌, ◌≤◌, ◌^◌, ◌++◌, [], true, length};
+ghost use Rattle.std.specs.Prelude.{◌≡◌, ◌+◌, ◌<◌, ◌≤◌, ◌^◌, ◌++◌, [], true, false, length};
 ghost use Rattle.std.specs.List.{AllByRecursion};
-ghost use Rattle.rt_plain.specs.kernel.State.{InCall};
+ghost use Rattle.rt_plain.specs.kernel.State.{InCall, is_among};
 ghost use Rattle.rt_plain.specs.kernel.Outcome.{First, may_not_wait, wait_outcome, wait_or_refusal};
 ghost use Rattle.rt_plain.specs.kernel.Effects.{each_effect};
 ghost use Rattle.rt_kernel.specs.Answer.{plain_answer};
@@ -29,6 +29,7 @@ impl State {
     // The thread waits in a call until a moment, if one is given, where it may wait.
     pub fn try_wait(&mut self, t: ThreadNo, core: CoreNo, call: Call, due: Option<u64>) -> Answer
         requires there { t < length self.old.tables.threads }
+        requires unready { is_among self.old.tables.ready t ≡ false }
         requires armed { length self.old.armed ≤ 256 }
         requires number { self.old.numbers + 2 < 2 ^ 64 }
         requires known { knows self.old.tables call ≡ true }
@@ -47,7 +48,7 @@ impl State {
 
     // A call that can't be done now: it is refused where a timer makes it or its timeout is 0, and else waits.
     pub fn wait_for(&mut self, by: Caller, call: Call, timeout: Option<u32>) -> Answer
-        requires there { IsThere by (length self.old.tables.threads) }
+        requires there { IsThere by self.old.tables }
         requires armed { length self.old.armed ≤ 256 }
         requires moment { self.old.moment ≤ 1099511627775 }
         requires number { self.old.numbers + 2 < 2 ^ 64 }
@@ -72,7 +73,6 @@ impl State {
     // All the threads that a deletion has woken follow.
     pub fn follow_waited(&mut self, out: &mut Lines)
         requires there { AllByRecursion (λ t. t < length self.old.tables.threads) self.old.waited }
-        requires room { length self.old.ready + length self.old.waited ≤ 512 }
         requires lines { length out.old.items + length self.old.waited ≤ out.old.room }
         ensures state { state_of self.new ≡ (each_effect (follow_effect Code.Error) self.old.waited (state_of self.old)).state }
         ensures lines { out.new.items ≡ out.old.items ++ (each_effect (follow_effect Code.Error) self.old.waited (state_of self.old)).lines }
@@ -90,7 +90,6 @@ impl State {
     // All the threads that flags have woken follow.
     pub fn follow_woken(&mut self, out: &mut Lines)
         requires there { AllByRecursion (λ w. w.0 < length self.old.tables.threads) self.old.woken }
-        requires room { length self.old.ready + length self.old.woken ≤ 512 }
         requires lines { length out.old.items + length self.old.woken ≤ out.old.room }
         ensures state { state_of self.new ≡ (each_effect (λ w. follow_effect Code.Ok w.0) self.old.woken (state_of self.old)).state }
         ensures lines { out.new.items ≡ out.old.items ++ (each_effect (λ w. follow_effect Code.Ok w.0) self.old.woken (state_of self.old)).lines }

@@ -5,9 +5,11 @@ use Rattle.rt_plain.specs.runs.Runs.{thread_count}
 use Rattle.rt_plain.proofs.kernel.TickCosts.{armed-few}
 use Rattle.rt_kernel.specs.Built.{IsBuilt}
 use Rattle.rt_kernel.specs.IsKernel.{frame_of}
+use Rattle.kernel_tables.specs.Tabled.{Tabled}
+use Rattle.rt_kernel.specs.Switched.{IsOnCore}
 use Rattle.rt_kernel.specs.View.{state_of}
 use Rattle.rt_kernel.proofs.BuiltLemmas.{script-short}
-use Rattle.rt_kernel.proofs.KeptLemmas.{ready-few, ready-numbers, ready-once, running-there}
+use Rattle.rt_kernel.proofs.KeptLemmas.{on-core, ready-once, running-there}
 use Rattle.rt_kernel.proofs.kernel.know_state.Goals as goal
 
 -- there are 256 threads at most
@@ -20,12 +22,6 @@ returns-clause-count c =
     let none : thread_count b ≡ length b.threads = rw (c.requires.built.shell, c.requires.built.soft) (omega arith) in
     omega (arith, c.requires.kept.count, none)
 
-pub returns-clause-ready : goal.returns-clause-ready
-returns-clause-ready c =
-    let b = c.args.board.now in
-    let s : State = state_of c.args.state.now in
-    omega (arith, ready-few (frame_of b s) s c.requires.kept, counted b (length s.threads) c.requires.built c.requires.kept.count)
-
 pub returns-clause-armed : goal.returns-clause-armed
 returns-clause-armed c =
     let b = c.args.board.now in
@@ -35,20 +31,15 @@ returns-clause-armed c =
 pub returns-clause-moment : goal.returns-clause-moment
 returns-clause-moment c = c.requires.kept.live c.requires.built.proper.until refl
 
-pub returns-clause-there : goal.returns-clause-there
-returns-clause-there c = ready-numbers (frame_of c.args.board.now (state_of c.args.state.now)) (state_of c.args.state.now) c.requires.kept
-
 pub returns-clause-once : goal.returns-clause-once
 returns-clause-once c = ready-once (frame_of c.args.board.now (state_of c.args.state.now)) (state_of c.args.state.now) c.requires.kept
 
-runs : (n : ℕ) (o : Option ℕ) → ((r : ℕ) → o ≡ Some r → r < n) → IfSome o (λ r. r < n)
-runs n None there = tt
-runs n (Some r) there = there r refl
+runs : (k : Tabled) (o : Option ℕ) → ((r : ℕ) → o ≡ Some r → IsOnCore k r) → IfSome o (λ r. IsOnCore k r)
+runs k None there = tt
+runs k (Some r) there = there r refl
 
 pub returns-clause-running : goal.returns-clause-running
-returns-clause-running c =
-    let s : State = state_of c.args.state.now in
-    runs (length s.threads) c.args.state.now.running (λ r is. (running-there (frame_of c.args.board.now s) s 0 r c.requires.kept is).0)
+returns-clause-running c = runs c.args.state.now.tables c.args.state.now.running (λ r is. on-core (frame_of c.args.board.now (state_of c.args.state.now)) c.args.state.now 0 r c.requires.kept is)
 
 pub returns-clause-next : goal.returns-clause-next
 returns-clause-next c r is =

@@ -9,13 +9,13 @@ returns-in_err-no-clause-first c =
     rw (← c.self.view_is) (λ queue found. absurd (none-some queue (sym (queue-none l.channels l.objects.msgqueue.objects c.args.name.now (sym c.find.ensures ∙ c.in_err-no.was)) ∙ found)))
 
 pub first-requires : goal.first-requires
-first-requires c = queue-there c.self.inside.threads c.self.inside.lists c.args.name.now c.in_ok-no.no c.self.invariant (sym c.find.ensures ∙ c.in_ok-no.was)
+first-requires c = queue-there c.self.inside.threads c.self.inside.lists c.args.name.now c.in_ok-no.no c.self.invariant.tied (sym c.find.ensures ∙ c.in_ok-no.was)
 
 pub returns-clause-first : goal.returns-clause-first
 returns-clause-first c =
     let l = c.self.inside.lists in
-    rw (← c.self.view_is) (λ queue found. c.first.ensures.first ∙ first-seen c.self.inside.threads l c.args.name.now c.in_ok-no.no c.args.end queue c.self.invariant (sym c.find.ensures ∙ c.in_ok-no.was) found)
+    rw (← c.self.view_is) (λ queue found. c.first.ensures.first ∙ first-seen c.self.inside.threads l c.args.name.now c.in_ok-no.no c.args.end queue c.self.invariant.tied (sym c.find.ensures ∙ c.in_ok-no.was) found)
 
 pub returns-clause-there : goal.returns-clause-there
 returns-clause-there c =
-    rw (← c.self.view_is) (first-there c.self.inside.threads c.self.inside.lists c.args.name.now c.in_ok-no.no c.args.end c.first.result c.self.invariant (sym c.find.ensures ∙ c.in_ok-no.was) c.first.ensures.first)
+    rw (← c.self.view_is) (first-there c.self.inside.threads c.self.inside.lists c.args.name.now c.in_ok-no.no c.args.end c.first.result c.self.invariant.tied (sym c.find.ensures ∙ c.in_ok-no.was) c.first.ensures.first)

@@ -4,6 +4,7 @@ use Rattle.rt_plain.specs.kernel.State.{MsgQueue as PlainQueue}
 use Rattle.object_box.specs.Objects.{number_of}
 use Rattle.ipc_queues.specs.declared.ends.End.{End}
 use Rattle.ipc_queues.specs.declared.channels.ChannelKind.{ChannelKind}
+use Rattle.kernel_tables.specs.Ready.{with_ready}
 use Rattle.kernel_tables.specs.Tied.{tabled}
 use Rattle.kernel_tables.specs.declared.wait_list.WaitList.{WaitList}
 use Rattle.kernel_tables.proofs.MadeLemmas.{lists-kept}
@@ -24,7 +25,7 @@ returns-in_err-no-clause-state c =
     rw (← c.self.view_is) (sym (rw (queue-none l.channels l.objects.msgqueue.objects c.args.name.now none) refl))
 
 pub receive_message-requires : goal.receive_message-requires
-receive_message-requires c = queue-there c.self.inside.threads c.self.inside.lists c.args.name.now c.in_ok-no.no c.self.invariant (sym c.find.ensures ∙ c.in_ok-no.was)
+receive_message-requires c = queue-there c.self.inside.threads c.self.inside.lists c.args.name.now c.in_ok-no.no c.self.invariant.tied (sym c.find.ensures ∙ c.in_ok-no.was)
 
 pub returns-clause-answer : goal.returns-clause-answer
 returns-clause-answer c =
@@ -36,13 +37,16 @@ returns-clause-state c =
     let l = c.self.inside.lists in
     let is : number_of l.objects.msgqueue.objects c.args.name.now ≡ Some c.in_ok-no.no = sym c.find.ensures ∙ c.in_ok-no.was in
     let e = c.receive_message.ensures in
-    rw (← c.self.view_is) (λ k. record (tabled c.self.inside.threads l) {
-      queues = taken-state l c.args.name.now c.in_ok-no.no c.receive_message.result c.receive_message.new.self (c.self.invariant.lists.sound (WaitList.Channel ChannelKind.MsgQueue End.Receivers)) is (queue-there c.self.inside.threads l c.args.name.now c.in_ok-no.no c.self.invariant is) e.message e.taken e.empty k;
+    rw (← c.self.view_is) (λ k. record (with_ready (tabled c.self.inside.threads l) c.self.inside.ready) {
+      queues = taken-state l c.args.name.now c.in_ok-no.no c.receive_message.result c.receive_message.new.self (c.self.invariant.tied.lists.sound (WaitList.Channel ChannelKind.MsgQueue End.Receivers)) is (queue-there c.self.inside.threads l c.args.name.now c.in_ok-no.no c.self.invariant.tied is) e.message e.taken e.empty k;
       mailboxes = other-mailboxes l c.receive_message.new.self (taken-others l.channels c.receive_message.new.self c.in_ok-no.no _ c.receive_message.result e.taken e.empty) k;
     })
 
 pub invariant_of-self : goal.invariant_of-self
-invariant_of-self c =
-    let l = c.self.inside.lists in
-    let e = c.receive_message.ensures in
-    lists-kept c.self.inside.threads l _ c.self.invariant refl (channels-keep l _ refl refl (taken-keeps l.channels c.receive_message.new.self c.in_ok-no.no _ c.receive_message.result e.taken e.empty))
+invariant_of-self c = record {
+  tied =
+      let l = c.self.inside.lists in
+      let e = c.receive_message.ensures in
+      lists-kept c.self.inside.threads l _ c.self.invariant.tied refl (channels-keep l _ refl refl (taken-keeps l.channels c.receive_message.new.self c.in_ok-no.no _ c.receive_message.result e.taken e.empty));
+  ready = c.self.invariant.ready;
+}

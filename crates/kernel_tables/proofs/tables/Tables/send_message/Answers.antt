@@ -6,6 +6,7 @@ use Rattle.kernel_tables.specs.Tabled.{message_answer}
 use Rattle.object_box.specs.Objects.{number_of}
 use Rattle.ipc_queues.specs.declared.ends.End.{End}
 use Rattle.ipc_queues.specs.declared.channels.ChannelKind.{ChannelKind}
+use Rattle.kernel_tables.specs.Ready.{with_ready}
 use Rattle.kernel_tables.specs.Tied.{tabled}
 use Rattle.kernel_tables.specs.declared.wait_list.WaitList.{WaitList}
 use Rattle.kernel_tables.proofs.MadeLemmas.{lists-kept}
@@ -26,7 +27,7 @@ returns-in_err-no-clause-state c =
     rw (← c.self.view_is) (sym (rw (queue-none l.channels l.objects.msgqueue.objects c.args.name.now none) refl))
 
 pub send_message-requires : goal.send_message-requires
-send_message-requires c = queue-there c.self.inside.threads c.self.inside.lists c.args.name.now c.in_ok-no.no c.self.invariant (sym c.find.ensures ∙ c.in_ok-no.was)
+send_message-requires c = queue-there c.self.inside.threads c.self.inside.lists c.args.name.now c.in_ok-no.no c.self.invariant.tied (sym c.find.ensures ∙ c.in_ok-no.was)
 
 pub returns-clause-answer : goal.returns-clause-answer
 returns-clause-answer c =
@@ -38,13 +39,16 @@ returns-clause-state c =
     let l = c.self.inside.lists in
     let is : number_of l.objects.msgqueue.objects c.args.name.now ≡ Some c.in_ok-no.no = sym c.find.ensures ∙ c.in_ok-no.was in
     let e = c.send_message.ensures in
-    rw (← c.self.view_is) (λ k. record (tabled c.self.inside.threads l) {
-      queues = put-state l c.args.name.now c.in_ok-no.no c.args.text.now (λ messages. messages ++ c.args.text.now ∷ []) c.send_message.result c.send_message.new.self (c.self.invariant.lists.sound (WaitList.Channel ChannelKind.MsgQueue End.Receivers)) is (queue-there c.self.inside.threads l c.args.name.now c.in_ok-no.no c.self.invariant is) e.answer e.sent e.refused k;
+    rw (← c.self.view_is) (λ k. record (with_ready (tabled c.self.inside.threads l) c.self.inside.ready) {
+      queues = put-state l c.args.name.now c.in_ok-no.no c.args.text.now (λ messages. messages ++ c.args.text.now ∷ []) c.send_message.result c.send_message.new.self (c.self.invariant.tied.lists.sound (WaitList.Channel ChannelKind.MsgQueue End.Receivers)) is (queue-there c.self.inside.threads l c.args.name.now c.in_ok-no.no c.self.invariant.tied is) e.answer e.sent e.refused k;
       mailboxes = other-mailboxes l c.send_message.new.self (put-others l.channels c.send_message.new.self c.in_ok-no.no _ c.send_message.result e.sent e.refused) k;
     })
 
 pub invariant_of-self : goal.invariant_of-self
-invariant_of-self c =
-    let l = c.self.inside.lists in
-    let e = c.send_message.ensures in
-    lists-kept c.self.inside.threads l _ c.self.invariant refl (channels-keep l _ refl refl (put-keeps l.channels c.send_message.new.self c.in_ok-no.no _ c.send_message.result e.sent e.refused))
+invariant_of-self c = record {
+  tied =
+      let l = c.self.inside.lists in
+      let e = c.send_message.ensures in
+      lists-kept c.self.inside.threads l _ c.self.invariant.tied refl (channels-keep l _ refl refl (put-keeps l.channels c.send_message.new.self c.in_ok-no.no _ c.send_message.result e.sent e.refused));
+  ready = c.self.invariant.ready;
+}

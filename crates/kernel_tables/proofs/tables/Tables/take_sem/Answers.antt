@@ -1,9 +1,10 @@
-use Rattle.std.proofs.Common.{arith, ◌≡◌, ◌∙◌, Bool, Some, None, sym, ap, nat_lt, map, refl}
+use Rattle.std.proofs.Common.{arith, ◌≡◌, ◌∙◌, Bool, List, Some, None, sym, ap, nat_lt, refl}
 use Rattle.std.specs.Option.{option_map}
 use Rattle.rt_plain.specs.kernel.State.{Sem as PlainSem}
 use Rattle.ipc_counts.specs.Counted.{Counted}
 use Rattle.object_box.specs.Objects.{number_of}
-use Rattle.kernel_tables.specs.Listed.{plain_event, plain_mailboxes, plain_queues}
+use Rattle.kernel_tables.specs.Ready.{with_ready}
+use Rattle.kernel_tables.specs.Tied.{tabled}
 use Rattle.kernel_tables.specs.declared.wait_list.WaitList.{WaitList}
 use Rattle.kernel_tables.proofs.MadeLemmas.{lists-kept}
 use Rattle.kernel_tables.proofs.SemLemmas.{seen-none, seen-some, slot-there, slot-is, take-seen, taken-keeps}
@@ -22,12 +23,12 @@ returns-in_err-no-clause-state c =
 pub index_mut-requires : goal.index_mut-requires
 index_mut-requires c =
     let is : number_of c.self.inside.lists.objects.sem.objects c.args.name.now ≡ Some c.no.inside.0 = sym c.find.ensures ∙ c.in_ok-no.was ∙ ap (λ n. Some n) (sym c.no.view_is) in
-    omega (arith, slot-there c.self.inside.threads c.self.inside.lists c.args.name.now c.no.inside.0 c.self.invariant is)
+    omega (arith, slot-there c.self.inside.threads c.self.inside.lists c.args.name.now c.no.inside.0 c.self.invariant.tied is)
 
 pub returns-clause-answer : goal.returns-clause-answer
 returns-clause-answer c =
     let is : number_of c.self.inside.lists.objects.sem.objects c.args.name.now ≡ Some c.no.inside.0 = sym c.find.ensures ∙ c.in_ok-no.was ∙ ap (λ n. Some n) (sym c.no.view_is) in
-    let there = slot-there c.self.inside.threads c.self.inside.lists c.args.name.now c.no.inside.0 c.self.invariant is in
+    let there = slot-there c.self.inside.threads c.self.inside.lists c.args.name.now c.no.inside.0 c.self.invariant.tied is in
     rw (← c.self.view_is) (ap (λ (b : Bool). Some b) c.try_take.ensures.exactly
     ∙ ap (λ (x : Counted). Some (nat_lt 0 x.value)) (slot-is c.self.inside.lists.sems.items c.no.inside.0 c.index_mut.result.now there c.index_mut.ensures.value)
     ∙ ap (option_map (λ (sem : PlainSem). nat_lt 0 sem.value)) (sym (seen-some c.self.inside.lists.sems.items c.self.inside.lists.objects.sem.objects c.args.name.now c.no.inside.0 is)))
@@ -35,24 +36,18 @@ returns-clause-answer c =
 pub returns-clause-state : goal.returns-clause-state
 returns-clause-state c =
     let is : number_of c.self.inside.lists.objects.sem.objects c.args.name.now ≡ Some c.no.inside.0 = sym c.find.ensures ∙ c.in_ok-no.was ∙ ap (λ n. Some n) (sym c.no.view_is) in
-    let there = slot-there c.self.inside.threads c.self.inside.lists c.args.name.now c.no.inside.0 c.self.invariant is in
+    let there = slot-there c.self.inside.threads c.self.inside.lists c.args.name.now c.no.inside.0 c.self.invariant.tied is in
     let at = slot-is c.self.inside.lists.sems.items c.no.inside.0 c.index_mut.result.now there c.index_mut.ensures.value in
-    rw (← c.self.view_is) (λ k. record {
-      threads = c.self.inside.threads;
-      sems = take-seen c.self.inside.lists.objects.sem c.self.inside.lists.sems.items c.args.name.now c.no.inside.0 c.try_take.result c.index_mut.result.now c.try_take.new.self (c.self.invariant.lists.sound WaitList.Sem) there is at c.try_take.ensures.exactly c.try_take.ensures.taken c.try_take.ensures.empty k;
-      events = map (plain_event c.self.inside.lists.events.items) c.self.inside.lists.objects.event.objects;
-      sem_limit = c.self.inside.lists.objects.sem.limit;
-      mailboxes = plain_mailboxes c.self.inside.lists;
-      queues = plain_queues c.self.inside.lists;
-      event_limit = c.self.inside.lists.objects.event.limit;
-      mailbox_limit = c.self.inside.lists.objects.mailbox.limit;
-      queue_limit = c.self.inside.lists.objects.msgqueue.limit;
-    })
+    rw (← c.self.view_is) (ap (λ (sems : List PlainSem). record (with_ready (tabled c.self.inside.threads c.self.inside.lists) c.self.inside.ready) { sems = sems })
+    (take-seen c.self.inside.lists.objects.sem c.self.inside.lists.sems.items c.args.name.now c.no.inside.0 c.try_take.result c.index_mut.result.now c.try_take.new.self (c.self.invariant.tied.lists.sound WaitList.Sem) there is at c.try_take.ensures.exactly c.try_take.ensures.taken c.try_take.ensures.empty))
 
 pub invariant_of-self : goal.invariant_of-self
-invariant_of-self c =
-    let l = c.self.inside.lists in
-    let is : number_of l.objects.sem.objects c.args.name.now ≡ Some c.no.inside.0 = sym c.find.ensures ∙ c.in_ok-no.was ∙ ap (λ n. Some n) (sym c.no.view_is) in
-    let there = slot-there c.self.inside.threads l c.args.name.now c.no.inside.0 c.self.invariant is in
-    let at = slot-is l.sems.items c.no.inside.0 c.index_mut.result.now there c.index_mut.ensures.value in
-    lists-kept c.self.inside.threads l _ c.self.invariant refl (taken-keeps l _ c.no.inside.0 c.try_take.result c.index_mut.result.now c.try_take.new.self at c.try_take.ensures.taken c.try_take.ensures.empty refl refl refl)
+invariant_of-self c = record {
+  tied =
+      let l = c.self.inside.lists in
+      let is : number_of l.objects.sem.objects c.args.name.now ≡ Some c.no.inside.0 = sym c.find.ensures ∙ c.in_ok-no.was ∙ ap (λ n. Some n) (sym c.no.view_is) in
+      let there = slot-there c.self.inside.threads l c.args.name.now c.no.inside.0 c.self.invariant.tied is in
+      let at = slot-is l.sems.items c.no.inside.0 c.index_mut.result.now there c.index_mut.ensures.value in
+      lists-kept c.self.inside.threads l _ c.self.invariant.tied refl (taken-keeps l _ c.no.inside.0 c.try_take.result c.index_mut.result.now c.try_take.new.self at c.try_take.ensures.taken c.try_take.ensures.empty refl refl refl);
+  ready = c.self.invariant.ready;
+}

@@ -1,9 +1,8 @@
-use Rattle.std.proofs.Common.{◌≡◌, filter, not}
-use Rattle.std.specs.List.{range_with_len}
-use Rattle.rt_plain.specs.kernel.State.{is_initial}
-use Rattle.kernel_tables.specs.Threads.{row_at}
+use Rattle.std.proofs.Common.{◌≡◌, map}
+use Rattle.ready_list.specs.Ordered.{with_rows}
+use Rattle.kernel_tables.specs.Ready.{row_for, started}
 use Rattle.kernel_tables.proofs.threads.Threads.start.Given as goal
 
 -- those of the threads so far that aren't initial
-abbrev pub invariant-loop-t : goal.invariant-loop-t
-invariant-loop-t l = l.ready ≡ filter (λ t. not (is_initial (row_at l.self t).stage)) (range_with_len 0 l.t)
+abbrev pub invariant-loop-i : goal.invariant-loop-i
+invariant-loop-i l = l.ready ≡ with_rows l.initial.ready (map (row_for l.self) (started l.self l.i))

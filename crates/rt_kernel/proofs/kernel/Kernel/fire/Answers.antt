@@ -11,10 +11,16 @@ use Rattle.rt_plain.specs.kernel.Calls.{settled_effect}
 use Rattle.rt_plain.specs.kernel.Sound.{is_waiting}
 use Rattle.rt_kernel.proofs.NameLemmas.{order-kept}
 use Rattle.rt_kernel.proofs.Quiet.{KeepsNames, quiet-timeout}
+use Rattle.rt_kernel.proofs.StageLemmas.{waiting_idle}
 use Rattle.rt_kernel.proofs.KeptLemmas.{fired-kept, due-dropped}
 use Rattle.rt_kernel.proofs.Quiet.{fire_settles}
 use Rattle.rt_kernel.proofs.kernel.Kernel.fire.Given.{Over}
 use Rattle.rt_kernel.proofs.kernel.Kernel.fire.Goals as goal
+
+pub fire-requires-clause-idle : goal.fire-requires-clause-idle
+fire-requires-clause-idle g c =
+    let s : State = state_of c.self.inside.state in
+    waiting_idle (thread_at s c.no.inside.0).stage (ap (λ n. is_waiting (thread_at s n).stage) c.no.view_is ∙ ap (λ (k : PlainKernel). is_waiting (thread_at k.state c.args.no).stage) c.self.view_is ∙ c.requires.waits)
 
 fired : (g : Over) (c : goal.After-fire g) → state_of c.fire.new.self ≡ (settled_effect c.self.inside.board (state_of c.self.inside.state) (timeout_effect c.args.no (state_of c.self.inside.state))).state
 fired g c =

@@ -14,17 +14,11 @@ use Rattle.rt_kernel.proofs.state.State.call.Goals as goal
 pub settle-requires-clause-there : goal.settle-requires-clause-there
 settle-requires-clause-there c = some-kept c.new_base-change.result (λ (change : NewBase). change.thread < length c.set_next.new.self.threads) (λ (change : NewBase). change.thread < length c.do_call-answer.new.self.tables.threads) (λ change there. omega (arith, there, c.do_call-answer.ensures.threads)) c.new_base-change.ensures.there
 
-pub settle-requires-clause-ready : goal.settle-requires-clause-ready
-settle-requires-clause-ready c =
-    let mid : KernelState = record c.args.self.now { tables = c.set_next.new.self } in
-    if-some c.new_base-change.result (λ (change : NewBase). length c.do_call-answer.new.self.ready < 512)
-    (λ change is. omega (arith, (base-call c.args.board.now c.args.t c.args.core c.next-k.result c.args.call.now mid c.do_call-answer.new.self c.args.out.now c.do_call-answer.new.out c.do_call-answer.result (2 + length mid.tables.threads) change (sym c.new_base-change.ensures.is ∙ is) c.do_call-answer.ensures).0, c.requires.room.ready))
-
 pub settle-requires-clause-lines : goal.settle-requires-clause-lines
 settle-requires-clause-lines c =
     let mid : KernelState = record c.args.self.now { tables = c.set_next.new.self } in
     if-some c.new_base-change.result (λ (change : NewBase). length c.do_call-answer.new.out.items < c.do_call-answer.new.out.room)
-    (λ change is. omega (arith, (base-call c.args.board.now c.args.t c.args.core c.next-k.result c.args.call.now mid c.do_call-answer.new.self c.args.out.now c.do_call-answer.new.out c.do_call-answer.result (2 + length mid.tables.threads) change (sym c.new_base-change.ensures.is ∙ is) c.do_call-answer.ensures).1, c.do_call-answer.ensures.out_room, c.requires.room.lines))
+    (λ change is. omega (arith, (base-call c.args.board.now c.args.t c.args.core c.next-k.result c.args.call.now mid c.do_call-answer.new.self c.args.out.now c.do_call-answer.new.out c.do_call-answer.result (2 + length mid.tables.threads) change (sym c.new_base-change.ensures.is ∙ is) c.do_call-answer.ensures), c.do_call-answer.ensures.out_room, c.requires.room.lines))
 
 pub returns : goal.returns
 returns c =

@@ -11,7 +11,6 @@ invariant-loop-i l = record {
   waited : l.self.waited ≡ l.fn.self.waited;
   tables : l.self.tables ≡ l.fn.self.tables;
   numbers : l.self.numbers ≡ l.fn.self.numbers;
-  ready : length l.self.ready ≡ length l.fn.self.ready + l.i;
   count : length l.out.items ≡ length l.fn.out.items + l.i;
   room : l.out.room ≡ l.fn.out.room;
   state : (each_effect (follow_effect Code.Error) (drop l.i l.fn.self.waited) (state_of l.self)).state ≡ (each_effect (follow_effect Code.Error) l.fn.self.waited (state_of l.fn.self)).state;

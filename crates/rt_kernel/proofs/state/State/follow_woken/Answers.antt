@@ -24,7 +24,6 @@ loop-i-preserved c =
       woken = c.follow.ensures.woken ∙ is.woken;
       tables = c.follow.ensures.tables ∙ is.tables;
       numbers = c.follow.ensures.numbers ∙ is.numbers;
-      ready = omega (arith, c.follow.ensures.ready, is.ready);
       count = omega (arith, ap length c.follow.ensures.lines, length-append c.loop-i.out.items (act w s).lines, is.count);
       room = c.follow.ensures.out_room ∙ is.room;
       state = ap (λ (u : State). (each_effect act (drop (i + 1) all) u).state) c.follow.ensures.state ∙ sym (ap (λ (e : Effect). e.state) next) ∙ is.state;

@@ -11,7 +11,6 @@ invariant-loop-i l = record {
   woken : l.self.woken ≡ l.fn.self.woken;
   tables : l.self.tables ≡ l.fn.self.tables;
   numbers : l.self.numbers ≡ l.fn.self.numbers;
-  ready : length l.self.ready ≡ length l.fn.self.ready + l.i;
   count : length l.out.items ≡ length l.fn.out.items + l.i;
   room : l.out.room ≡ l.fn.out.room;
   state : (each_effect (λ w. follow_effect Code.Ok w.0) (drop l.i l.fn.self.woken) (state_of l.self)).state ≡ (each_effect (λ w. follow_effect Code.Ok w.0) l.fn.self.woken (state_of l.fn.self)).state;
