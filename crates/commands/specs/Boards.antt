@@ -5,10 +5,10 @@ use Rattle.rt_plain.specs.text.BoardText.{IsBoard, first_bad}
 use Rattle.rt_plain.specs.text.Canon.{canonical_text}
 use Rattle.rt_plain.specs.runs.Commands.{Command, run_text, console_text}
 use Rattle.rt_plain.specs.runs.Ends.{run_of}
-use Rattle.rt_plain.specs.runs.Runs.{Course}
+use Rattle.rt_plain.specs.runs.Runs.{Course, is_over}
 use Rattle.rt_plain.specs.declared.why.Why.{Why}
 use Rattle.kernel_step.specs.Built.{is_built}
-use Rattle.kernel_step.specs.Ends.{IsLimited, HasCompleted}
+use Rattle.core_runner.specs.Limits.{IsLimited, HasCompleted}
 use Rattle.commands.specs.declared.tracing.Refusal.{Refusal}
 
 -- ---- files that are no board
@@ -73,7 +73,7 @@ pub record Halts (bytes : List ℕ) : Type 0 where
 pub record IsOver (bytes : List ℕ) (entries lines : ℕ) : Type 0 where
   pub board : PlainBoard
   pub file : IsBuiltFile bytes board
-  pub limited : IsLimited board entries lines
+  pub limited : IsLimited (is_over board) board entries lines
 
 -- the command makes a run, which meets a limit before it halts, at so many entries and lines
 abbrev pub IsOverRun : Command → List ℕ → ℕ → ℕ → Type 0
@@ -92,7 +92,7 @@ pub record HasRun (bytes : List ℕ) (b : PlainBoard) (c : Course) : Type 0 wher
   pub file : IsBuiltFile bytes b
   pub run : c ≡ run_of b
   pub halted : IsSome c.halt
-  pub complete : HasCompleted b c
+  pub complete : HasCompleted (is_over b) b c
 
 -- ---- what a command writes
 
@@ -101,7 +101,7 @@ pub record IsRunText (text_of : PlainBoard → List ℕ) (bytes text : List ℕ)
   pub board : PlainBoard
   pub file : IsBuiltFile bytes board
   pub halted : IsSome (run_of board).halt
-  pub complete : HasCompleted board (run_of board)
+  pub complete : HasCompleted (is_over board) board (run_of board)
   pub output : text ≡ text_of board
 
 -- the canonical text of the file's board

@@ -9,8 +9,9 @@ ghost use Rattle.commands.specs.Boards.{IsBoardFile, HasRun, IsRunText, IsShown,
 use crate::words::Command;
 use board_show::show;
 use board_text::{BoardFault, parse};
+use core_runner::{RunFault, run};
 use journal::{console, text};
-use kernel_step::{Machine, RunFault, run};
+use kernel_step::Machine;
 use rt_base::{Halt, List};
 use rt_plain::{Board, Why};
 use std::alloc::{AllocError, Global};

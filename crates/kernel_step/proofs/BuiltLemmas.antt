@@ -1,11 +1,10 @@
 -- What the test of a built board says.
 use Rattle.std.proofs.Common.{◌≡◌, ℕ, ◌+◌, ◌*◌, ◌≤◌, ◌&&◌, length, arith, add-one, suc-mul, Bool, true, false, refl}
 use Rattle.rt_base.specs.declared.codes.Sleep.{Sleep}
-use Rattle.rt_plain.specs.declared.board.Schedule.{Schedule}
 use Rattle.rt_plain.specs.PlainBoard.{PlainBoard}
 use Rattle.rt_plain.specs.runs.Runs.{room}
 use Rattle.rt_kernel.specs.Built.{is_built as is_built_for_kernel, IsBuilt as IsBuiltForKernel}
-use Rattle.kernel_step.specs.Built.{is_built, IsBuilt, is_awake, is_round}
+use Rattle.kernel_step.specs.Built.{is_built, IsBuilt, is_awake}
 
 awake : (m : Sleep) → is_awake m ≡ true → m ≡ Sleep.NoSleep
 awake Sleep.NoSleep is = refl
@@ -14,11 +13,6 @@ awake Sleep.Light is = absurd cc
 awake Sleep.Deep is = absurd cc
 awake Sleep.Standby is = absurd cc
 awake Sleep.Shutdown is = absurd cc
-
-in_rounds : (s : Schedule) → is_round s ≡ true → s ≡ Schedule.Round
-in_rounds Schedule.Round is = refl
-in_rounds (Schedule.Seed n) is = absurd cc
-in_rounds (Schedule.Order es) is = absurd cc
 
 both : (a b : Bool) → a && b ≡ true → (a ≡ true) × (b ≡ true)
 both true true is = (refl, refl)
@@ -29,9 +23,7 @@ pub for-kernel : (b : PlainBoard) → is_built b ≡ true → is_built_for_kerne
 for-kernel b is = (both _ _ is).0
 
 pub built : (b : PlainBoard) → is_built b ≡ true → IsBuiltForKernel b → IsBuilt b
-built b is kernel =
-    let settings = both _ _ (both _ _ is).1 in
-    record { kernel = kernel; mode = awake b.default_mode settings.0; schedule = in_rounds b.schedule settings.1 }
+built b is kernel = record { kernel = kernel; mode = awake b.default_mode (both _ _ is).1 }
 
 -- the room for one event's lines
 pub room-built : (b : PlainBoard) → IsBuilt b → room b ≡ (length b.threads + 1) * (2 * length b.threads + 4) + 305

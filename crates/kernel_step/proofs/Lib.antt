@@ -4,4 +4,3 @@ pub mod StepLemmas
 pub mod FireLemmas
 pub mod TickLemmas
 pub mod MachineLemmas
-pub mod RunnerLemmas

@@ -4,4 +4,3 @@ pub mod Firing
 pub mod Gives
 pub mod Seen
 pub mod Inside
-pub mod Ends

@@ -1,10 +1,10 @@
-ghost use Rattle.std.specs.Prelude.{◌≡◌, ◌+◌, ◌*◌, ◌<◌, ◌≤◌, ◌^◌, ◌-◌, ◌==◌, ◌++◌, [], ℕ, true, false, length, ◌&&◌, Some, None, IfOk, if◌then◌else◌};
+ghost use Rattle.std.specs.Prelude.{◌≡◌, ◌+◌, ◌*◌, ◌<◌, ◌≤◌, ◌^◌, ◌-◌, ◌==◌, ◌++◌, [], ℕ, true, false, length, ◌&&◌, Some, None, is_some, IfOk, if◌then◌else◌};
 ghost use Rattle.rt_base.specs.declared.codes.Event.TheVariants.{Step, Tick as TickEvent};
 ghost use Rattle.rt_plain.specs.kernel.State.{thread_at, running_on};
 ghost use Rattle.rt_plain.specs.kernel.Due.{due};
 ghost use Rattle.rt_plain.specs.kernel.Opening.{open_state};
 ghost use Rattle.rt_plain.specs.kernel.Shown.{shown};
-ghost use Rattle.rt_plain.specs.runs.Schedules.{is_sleep, round_count};
+ghost use Rattle.rt_plain.specs.runs.Schedules.{is_sleep};
 ghost use Rattle.rt_plain.specs.kernel.Sleeps.{Made, is_empty};
 ghost use Rattle.rt_plain.specs.kernel.Statements.{statement_effect};
 ghost use Rattle.rt_plain.specs.kernel.Steps.{happens, is_all_idle};
@@ -236,14 +236,22 @@ impl Engine {
         self.halt
     }
 
-    /// How many rounds the next period has.
+    /// The run mode of now.
     #[tactic(auto, unfolding(crate::specs::Whole::state_of))]
-    pub(crate) fn pace(&self) -> u8
-        ensures rounds { result ≡ round_count (state_of self.now).run_mode }
-        ensures few { result ≤ 8 }
+    pub(crate) fn run_mode(&self) -> RunMode
+        ensures { result ≡ (state_of self.now).run_mode }
     {
         self.kernel.know_kernel();
-        4
+        RunMode::Normal
+    }
+
+    /// Whether a core holds the lock over all cores.
+    #[tactic(auto, unfolding(crate::specs::Whole::state_of))]
+    pub(crate) fn is_nested(&self) -> bool
+        ensures { result ≡ is_some (state_of self.now).nest }
+    {
+        self.kernel.know_kernel();
+        false
     }
 
     /// What is so in every engine: the board is valid enough for the laws of the plain kernel, and no core holds the

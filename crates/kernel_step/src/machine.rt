@@ -1,7 +1,6 @@
-ghost use Rattle.std.specs.Prelude.{◌≡◌, ◌↔◌, ◌+◌, ◌<◌, ◌≤◌, ◌^◌, ◌-◌, [], IfOk, OnOk, OnErr, IsErrOf, None, List, false, true, length};
+ghost use Rattle.std.specs.Prelude.{◌≡◌, ◌↔◌, ◌+◌, ◌<◌, ◌≤◌, ◌^◌, ◌-◌, [], IfOk, OnOk, OnErr, IsErrOf, None, List, false, true, length, is_some};
 ghost use Rattle.rt_plain.specs.runs.Runs.{IsReached, opened, after, room, is_event_of, line_count};
 ghost use Rattle.rt_plain.specs.runs.Runs.{is_over};
-ghost use Rattle.rt_plain.specs.runs.Schedules.{is_sleep_of, round_count, is_stopped};
 ghost use Rattle.rt_base.specs.declared.codes.Event.{Event as Occurrence};
 ghost use Rattle.rt_plain.specs.declared.line.Line.{Line};
 ghost use Rattle.rt_plain.specs.kernel.State.{State};
@@ -17,7 +16,7 @@ ghost use Rattle.kernel_step.specs.declared.machine.StartFault.TheVariants.{Memo
 use crate::engine::Engine;
 use crate::{Did, is_built};
 use journal::Journal;
-use rt_base::{Event, Halt, Steps};
+use rt_base::{Event, Halt, RunMode, Steps};
 use rt_kernel::know_built;
 use rt_plain::laws::{lines_fit_the_room, numbers_stay_small, reached_states_are_sound};
 use rt_plain::{Board, Lines};
@@ -176,15 +175,17 @@ impl Machine {
         let _entries = self.journal.entries();
     }
 
-    // One event, which makes no sleep so far.
-    pub(crate) fn make<L: Ledger>(&mut self, event: Event, steps: &mut Steps<L>) -> Did
+    /// One event, for whose lines there is room: a step of one of the board's cores, or a tick. `Entry` where it
+    /// made an entry, which stands at the journal's end with at most `room()` lines; `Same` where it changed
+    /// nothing; `Halted` where the machine had halted before, or a step of core 0 found that it has. It takes no
+    /// memory.
+    pub fn event<L: Ledger>(&mut self, event: Event, steps: &mut Steps<L>) -> Did
         requires room { room self.old.board ≤ self.old.spare }
         requires core { is_event_of self.old.board event ≡ true }
         ensures course { self.new.course ≡ after self.old.board self.old.course event }
         ensures board { self.new.board ≡ self.old.board }
         ensures did { result ≡ did_by self.old.board self.old.course event }
         ensures lines { line_count self.new.course.journal ≤ line_count self.old.course.journal + room self.old.board }
-        ensures awake { self.old.course.halt ≡ None → is_sleep_of (happens self.old.board self.old.course.state event) ≡ false }
     {
         if let Some(halt) = self.halt {
             return Did::Halted(halt);
@@ -202,21 +203,6 @@ impl Machine {
             Did::Halted(halt) => self.halt = Some(halt),
         }
         did
-    }
-
-    /// One event, for whose lines there is room: a step of one of the board's cores, or a tick. `Entry` where it
-    /// made an entry, which stands at the journal's end with at most `room()` lines; `Same` where it changed
-    /// nothing; `Halted` where the machine had halted before, or a step of core 0 found that it has. It takes no
-    /// memory.
-    pub fn event<L: Ledger>(&mut self, event: Event, steps: &mut Steps<L>) -> Did
-        requires room { room self.old.board ≤ self.old.spare }
-        requires core { is_event_of self.old.board event ≡ true }
-        ensures course { self.new.course ≡ after self.old.board self.old.course event }
-        ensures board { self.new.board ≡ self.old.board }
-        ensures did { result ≡ did_by self.old.board self.old.course event }
-        ensures lines { line_count self.new.course.journal ≤ line_count self.old.course.journal + room self.old.board }
-    {
-        self.make(event, steps)
     }
 
     /// The board.
@@ -275,34 +261,26 @@ impl Machine {
         Some((self.journal.entries(), self.journal.lines()))
     }
 
-    // Whether the journal meets a limit of the board.
-    fn is_over(&self) -> bool
+    /// Whether the journal meets a limit of the board: it has the board's `entries`, or its lines and `room()` are more
+    /// than 4,000,000.
+    pub fn is_over(&self) -> bool
         ensures { result ≡ is_over self.now.board self.now.course.journal }
     {
         let lines = self.journal.lines() as u64 + room_for(self.engine.board()) as u64;
         self.journal.entries() == self.engine.board().entries || lines > 4_000_000
     }
 
-    // Whether no further event is made: the machine has halted, or meets a limit.
-    pub(crate) fn has_stopped(&self) -> bool
-        ensures { result ≡ is_stopped (is_over self.now.board) self.now.course }
+    /// The run mode of now, which says how many rounds a period has.
+    pub fn run_mode(&self) -> RunMode
+        ensures { result ≡ self.now.course.state.run_mode }
     {
-        self.halt.is_some() || self.is_over()
+        self.engine.run_mode()
     }
 
-    // How many rounds the next period has.
-    pub(crate) fn pace(&self) -> u8
-        ensures rounds { result ≡ round_count self.now.course.state.run_mode }
-        ensures few { result ≤ 8 }
+    /// Whether a core holds the lock over all cores.
+    pub fn is_nested(&self) -> bool
+        ensures { result ≡ is_some self.now.course.state.nest }
     {
-        self.engine.pace()
-    }
-
-    // No core holds the lock over all cores, and the board is built.
-    pub(crate) fn facts(&self)
-        ensures nest { self.now.course.state.nest ≡ None }
-        ensures built { IsBuilt self.now.board }
-    {
-        self.engine.facts();
+        self.engine.is_nested()
     }
 }

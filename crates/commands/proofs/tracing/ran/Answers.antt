@@ -1,6 +1,7 @@
 use Rattle.std.proofs.Common.{Err, Result, ◌≡◌, ◌∙◌, ℕ, Bool, true, false, refl, sym, subst}
-use Rattle.kernel_step.specs.Ends.{MeetsLimit}
-use Rattle.kernel_step.specs.declared.runner.RunFault.{RunFault}
+use Rattle.rt_plain.specs.runs.Runs.{is_over}
+use Rattle.core_runner.specs.Limits.{MeetsLimit}
+use Rattle.core_runner.specs.declared.fault.RunFault.{RunFault}
 use Rattle.commands.proofs.tracing.ran.Goals as goal
 
 -- what isn't false is true
@@ -22,5 +23,5 @@ returns-in-Err-Limit-clause-cause c = record {
     file = c.in_ok-board.ensures.board;
     built = not_false _ (λ is. another c.in-Err-Limit.entries c.in-Err-Limit.lines (sym c.in-Err-Limit.field-0-is ∙ told (c.in-Err-Limit.ensures.later.1 is)));
   };
-  limited = subst (MeetsLimit c.in_ok-board.board) c.in-Err-Limit.field-0-is c.in-Err-Limit.ensures.limit;
+  limited = subst (MeetsLimit (is_over c.in_ok-board.board) c.in_ok-board.board) c.in-Err-Limit.field-0-is c.in-Err-Limit.ensures.limit;
 }
