@@ -1,14 +1,15 @@
 //! Writing words and whole lines behind what is there.
-ghost use Rattle.std.specs.Prelude.{◌≡◌, ◌++◌, [], ◌∷◌, ◌<◌, OnOk, false, map, codes};
-ghost use Rattle.std.specs.Fmt.{decimal, digit_glyph};
+ghost use Rattle.std.specs.Prelude.{◌≡◌, ◌++◌, [], ◌∷◌, OnOk, map, codes};
+ghost use Rattle.std.specs.Fmt.{decimal};
 ghost use Rattle.std.specs.List.{flat_map};
 ghost use Rattle.rt_plain.specs.text.Words.{words};
-ghost use Rattle.rt_plain.specs.text.Texts.{escape_of, quoted_text, with_newline};
+ghost use Rattle.rt_plain.specs.text.Texts.{with_newline};
 ghost use Rattle.board_show.specs.Writing.{shown};
 
 use crate::shown::Shown;
 use itoa::Buffer;
 use rt_base::List;
+use rt_plain::quotes::put_quoted;
 use std::alloc::AllocError;
 
 pub(crate) fn put(out: &mut List<u8>, bytes: &[u8]) -> Result<(), AllocError>
@@ -22,54 +23,6 @@ pub(crate) fn put_number(out: &mut List<u8>, n: u64) -> Result<(), AllocError>
 {
     let mut digits = Buffer::new();
     put(out, digits.format(n).as_bytes())
-}
-
-// A hexadecimal digit.
-fn glyph(digit: u8) -> u8
-    requires { digit < 16 }
-    ensures { result ≡ digit_glyph false digit }
-{
-    if digit < 10 {
-        b'0' + digit
-    } else {
-        b'a' + (digit - 10)
-    }
-}
-
-fn put_escape(out: &mut List<u8>, byte: u8) -> Result<(), AllocError>
-    ensures { OnOk result (out.new ≡ out.old ++ escape_of byte) }
-{
-    if byte == b'"' {
-        return put(out, b"\\\"");
-    }
-    if byte == b'\\' {
-        return put(out, b"\\\\");
-    }
-    if byte == b'\n' {
-        return put(out, b"\\n");
-    }
-    if byte >= 32 && byte <= 126 {
-        return put(out, &[byte]);
-    }
-    put(out, b"\\x")?;
-    put(out, &[glyph(byte / 16), glyph(byte % 16)])
-}
-
-fn put_escapes(out: &mut List<u8>, text: &[u8]) -> Result<(), AllocError>
-    ensures { OnOk result (out.new ≡ out.old ++ flat_map escape_of text.now) }
-{
-    for byte in text {
-        put_escape(out, *byte)?;
-    }
-    Ok(())
-}
-
-fn put_quoted(out: &mut List<u8>, text: &[u8]) -> Result<(), AllocError>
-    ensures { OnOk result (out.new ≡ out.old ++ quoted_text text.now) }
-{
-    put(out, b"\"")?;
-    put_escapes(out, text)?;
-    put(out, b"\"")
 }
 
 fn put_negative(out: &mut List<u8>, n: u8) -> Result<(), AllocError>
