@@ -1,5 +1,5 @@
 -- Lemmas.
 pub mod GrowLemmas
-pub mod TopLemmas
+pub mod CommandLemmas
 pub mod SaidLemmas
-pub mod WordLemmas
+pub mod ArgLemmas

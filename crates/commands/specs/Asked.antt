@@ -2,10 +2,10 @@
 use Rattle.std.specs.Prelude.{◌≡◌, ℕ, List, take, Option, Some, None}
 use Rattle.rt_edge.specs.Contents.{Names, IsAbsent, HasGrown}
 use Rattle.rt_plain.specs.runs.Commands.{Command}
-use Rattle.commands.specs.Words.{file_of}
+use Rattle.commands.specs.Command.{file_of}
 use Rattle.commands.specs.Held.{IfHeld, IsHeld, IsLacked, Steady}
 use Rattle.commands.specs.Boards.{IsText, IsTooLong, HasBadLine, IsUnbuiltRun, IsOverRun}
-use Rattle.commands.specs.Endings.{status_of, message}
+use Rattle.commands.specs.Ending.{status_of, message}
 use Rattle.commands.specs.declared.ending.Ending.{Ending}
 use Rattle.commands.specs.declared.ending.Ending.TheVariants.{TooLong, BadLine, NotBuilt, Limited}
 

@@ -9,7 +9,7 @@ use Rattle.rt_plain.specs.runs.Runs.{Course, is_over}
 use Rattle.rt_plain.specs.declared.why.Why.{Why}
 use Rattle.kernel_step.specs.Built.{is_built}
 use Rattle.core_runner.specs.Limits.{IsLimited, HasCompleted}
-use Rattle.commands.specs.declared.tracing.Refusal.{Refusal}
+use Rattle.commands.specs.declared.command_text.Refusal.{Refusal}
 
 -- ---- files that are no board
 

@@ -1,6 +1,6 @@
-pub mod Words
+pub mod Command
 pub mod Held
 pub mod Reads
 pub mod Boards
-pub mod Endings
+pub mod Ending
 pub mod Asked

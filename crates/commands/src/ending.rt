@@ -1,7 +1,7 @@
 ghost use Rattle.std.specs.Prelude.{◌≡◌, ℕ, OnOk, OnErr, take};
 ghost use Rattle.rt_edge.specs.Counts.{Rose};
 ghost use Rattle.rt_edge.specs.Contents.{HasGrown};
-ghost use Rattle.commands.specs.Endings.{message, bad_line, limit_line, why_text};
+ghost use Rattle.commands.specs.Ending.{message, bad_line, limit_line, why_text};
 
 use crate::writing::{put_all, put_parts};
 use itoa::Buffer;
@@ -34,7 +34,7 @@ pub enum Ending {
 }
 
 impl Ending {
-    ghost use Rattle.commands.specs.Endings.{status_of, message};
+    ghost use Rattle.commands.specs.Ending.{status_of, message};
 
     /// The status of the process.
     pub fn status(self) -> u8
@@ -91,7 +91,7 @@ fn say_missing<E: Sink>(file: &str, err: &mut E) -> Result<(), Failed>
 }
 
 // The word of a reason.
-#[tactic(auto, unfolding(crate::specs::Endings::why_text))]
+#[tactic(auto, unfolding(crate::specs::Ending::why_text))]
 fn why_word(why: Why) -> &'static [u8]
     ensures { result.now ≡ why_text why }
 {

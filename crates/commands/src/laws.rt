@@ -3,7 +3,7 @@ ghost use Rattle.std.specs.Prelude.{◌≡◌, List, String, string_bytes, map};
 ghost use Rattle.std.specs.Option.{option_and_then};
 ghost use Rattle.std.specs.declared.alloc.Global.{Global};
 ghost use Rattle.rt_plain.specs.runs.Commands.{command_of as defined_command_of};
-ghost use Rattle.commands.specs.Words.{command_of, if_built};
+ghost use Rattle.commands.specs.Command.{command_of, if_built};
 
 /// Words are `run`, `trace` or `show` of a file exactly where the definitions read them as that command of that file.
 /// Where they are no command here, the definitions read none, or one that isn't built.

@@ -1,13 +1,13 @@
 //! The command line: what the words ask for, what is written of it, and how it ends.
 #![tactic(auto)]
 
+mod args;
+mod command;
+mod command_text;
 mod ending;
 pub mod laws;
 mod reading;
-mod top;
-mod tracing;
-mod words;
 mod writing;
 
+pub use command::rtsim;
 pub use ending::Ending;
-pub use top::rtsim;

@@ -11,7 +11,7 @@ use Rattle.rt_plain.specs.kernel.Sound.{IsProper}
 use Rattle.rt_plain.specs.runs.Runs.{Course, opened, is_over, is_over_in, line_count, IsCompleteIn}
 use Rattle.rt_plain.specs.runs.Schedules.{Driven, moved, turns, driven, begun, is_stopped, listed_of, listed_place, period_place, words_of, most_turns, scheduled_course, IsDriveable, IsScheduled}
 use Rattle.rand_pcg.specs.Lcg.{Lcg}
-use Rattle.kernel_step.specs.Seen.{MachineSeen}
+use Rattle.kernel_step.specs.MachineSeen.{MachineSeen}
 use Rattle.core_runner.specs.declared.turns.Within.{Within}
 use Rattle.core_runner.specs.declared.place.Place.{Place}
 use Rattle.core_runner.specs.Places.{plain_place, stands}

@@ -13,7 +13,7 @@ use Rattle.rt_plain.specs.kernel.Steps.{happens}
 use Rattle.rt_plain.specs.runs.Runs.{Course, after, course_after, line_count}
 use Rattle.rt_plain.specs.runs.Schedules.{is_sleep, is_sleep_of}
 use Rattle.journal.specs.JournalSeen.{IsEntryAt, lines_of}
-use Rattle.kernel_step.specs.Seen.{did_of, did_in, did_by}
+use Rattle.kernel_step.specs.Did.{did_of, did_in, did_by}
 use Rattle.kernel_step.specs.declared.did.Did.{Did}
 use Rattle.core_runner.specs.Sleeps.{TellsSleep, TellsSleepOf}
 use Rattle.core_runner.proofs.TurnLemmas.{after-live}

@@ -6,7 +6,7 @@ use Rattle.rt_plain.specs.PlainBoard.{PlainBoard}
 use Rattle.rt_plain.specs.kernel.Shown.{shown}
 use Rattle.rt_plain.specs.runs.Runs.{Course, is_over, is_over_in, line_count, IsCompleteIn}
 use Rattle.rt_plain.specs.runs.Schedules.{scheduled_course, turns, driven, begun, is_stopped}
-use Rattle.kernel_step.specs.Seen.{MachineSeen}
+use Rattle.kernel_step.specs.MachineSeen.{MachineSeen}
 use Rattle.core_runner.specs.declared.place.Place.{Place}
 use Rattle.core_runner.specs.Places.{stands}
 use Rattle.core_runner.specs.declared.turns.Within.{Within}

@@ -11,7 +11,7 @@ use Rattle.rt_plain.specs.kernel.Ticks.{alarms_effect}
 use Rattle.rt_plain.specs.runs.Schedules.{is_sleep}
 use Rattle.rt_kernel.specs.PlainKernel.{PlainKernel}
 use Rattle.rt_kernel.specs.Due.{first_alarm, taken}
-use Rattle.kernel_step.specs.Firing.{IsFiring, rest_effect}
+use Rattle.kernel_step.specs.IsFiring.{IsFiring, rest_effect}
 use Rattle.kernel_step.proofs.StepLemmas.{awake-append}
 
 -- the row of a thread fires once it is taken

@@ -24,8 +24,8 @@ use Rattle.rt_kernel.specs.PlainKernel.{IsAlone}
 use Rattle.kernel_step.specs.declared.did.Did.{Did as Answer}
 use Rattle.kernel_step.specs.declared.did.Did.TheVariants.{Halted as Answered, Same as Stayed}
 use Rattle.kernel_step.specs.declared.engine.Engine.{Engine}
-use Rattle.kernel_step.specs.Gives.{Gives}
-use Rattle.kernel_step.specs.Whole.{state_of}
+use Rattle.kernel_step.specs.Did.{Gives}
+use Rattle.kernel_step.specs.Engine.{state_of}
 use Rattle.rt_kernel.specs.Switched.{switched, switched_by, effect_or, run_effect, preempt_effect}
 
 -- what a core does that runs o and would pick p

@@ -13,7 +13,7 @@ use Rattle.rt_plain.specs.kernel.Sleeps.{Made, Same}
 use Rattle.rt_plain.specs.kernel.Steps.{happens, unhalted_tick_did, did_of_effect}
 use Rattle.rt_kernel.specs.PlainKernel.{IsAlone, PlainKernel}
 use Rattle.kernel_step.specs.declared.engine.Engine.{Engine}
-use Rattle.kernel_step.specs.Whole.{state_of}
+use Rattle.kernel_step.specs.Engine.{state_of}
 use Rattle.kernel_step.proofs.StepLemmas.{here}
 
 nothing-arrives : (s : State) → IsAlone s → deliveries s ≡ no_effect s

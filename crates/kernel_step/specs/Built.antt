@@ -13,7 +13,7 @@ is_awake _ = false
 abbrev pub is_built : PlainBoard → Bool
 is_built b = is_built_for_kernel b && is_awake b.default_mode
 
--- the same as facts
+-- what the test says of a board
 pub record IsBuilt (b : PlainBoard) : Type 0 where
   pub kernel : IsBuiltForKernel b
   pub mode : b.default_mode ≡ Sleep.NoSleep

@@ -1,6 +1,6 @@
 pub mod Built
-pub mod Whole
-pub mod Firing
-pub mod Gives
-pub mod Seen
-pub mod Inside
+pub mod Engine
+pub mod IsFiring
+pub mod Did
+pub mod MachineSeen
+pub mod IsMachine

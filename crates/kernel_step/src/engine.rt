@@ -16,8 +16,8 @@ ghost use Rattle.rt_plain.specs.kernel.Sound.{IsProper, IsSized};
 ghost use Rattle.rt_kernel.specs.Switched.{switched};
 ghost use Rattle.rt_kernel.specs.Built.{is_built as is_built_for_kernel};
 ghost use Rattle.kernel_step.specs.Built.{IsBuilt, is_built};
-ghost use Rattle.kernel_step.specs.Gives.{Gives};
-ghost use Rattle.kernel_step.specs.Whole.{state_of};
+ghost use Rattle.kernel_step.specs.Did.{Gives};
+ghost use Rattle.kernel_step.specs.Engine.{state_of};
 
 use crate::Did;
 use rt_base::{CoreNo, Event, Halt, RunMode, Steps, ThreadNo};
@@ -176,7 +176,7 @@ impl Engine {
     }
 
     /// One event: a step of the core, or a tick.
-    #[tactic(auto, unfolding(crate::specs::Whole::state_of))]
+    #[tactic(auto, unfolding(crate::specs::Engine::state_of))]
     pub(crate) fn event<L: Ledger>(
         &mut self,
         event: &Event,
@@ -213,7 +213,7 @@ impl Engine {
     }
 
     /// The moment of now: how many ticks have passed since opening.
-    #[tactic(auto, unfolding(crate::specs::Whole::state_of))]
+    #[tactic(auto, unfolding(crate::specs::Engine::state_of))]
     pub(crate) fn moment(&self) -> u64
         ensures { result ≡ (state_of self.now).moment }
     {
@@ -221,7 +221,7 @@ impl Engine {
     }
 
     /// The tick that is shown now.
-    #[tactic(auto, unfolding(crate::specs::Whole::state_of))]
+    #[tactic(auto, unfolding(crate::specs::Engine::state_of))]
     pub(crate) fn tick(&self) -> u32
         ensures { result ≡ shown self.now.kernel.board (state_of self.now).moment }
     {
@@ -229,7 +229,7 @@ impl Engine {
     }
 
     /// How the last tick halted it.
-    #[tactic(auto, unfolding(crate::specs::Whole::state_of))]
+    #[tactic(auto, unfolding(crate::specs::Engine::state_of))]
     pub(crate) fn halt(&self) -> Option<Halt>
         ensures { result ≡ (state_of self.now).halt }
     {
@@ -237,7 +237,7 @@ impl Engine {
     }
 
     /// The run mode of now.
-    #[tactic(auto, unfolding(crate::specs::Whole::state_of))]
+    #[tactic(auto, unfolding(crate::specs::Engine::state_of))]
     pub(crate) fn run_mode(&self) -> RunMode
         ensures { result ≡ (state_of self.now).run_mode }
     {
@@ -246,7 +246,7 @@ impl Engine {
     }
 
     /// Whether a core holds the lock over all cores.
-    #[tactic(auto, unfolding(crate::specs::Whole::state_of))]
+    #[tactic(auto, unfolding(crate::specs::Engine::state_of))]
     pub(crate) fn is_nested(&self) -> bool
         ensures { result ≡ is_some (state_of self.now).nest }
     {
@@ -256,8 +256,8 @@ impl Engine {
 
     /// What is so in every engine: the board is valid enough for the laws of the plain kernel, and no core holds the
     /// lock over all cores.
-    #[tactic(auto, unfolding(crate::specs::Whole::state_of))]
-    pub(crate) fn facts(&self)
+    #[tactic(auto, unfolding(crate::specs::Engine::state_of))]
+    pub(crate) fn know_engine(&self)
         ensures proper { IsProper self.now.kernel.board }
         ensures sized { IsSized self.now.kernel.board }
         ensures nest { (state_of self.now).nest ≡ None }

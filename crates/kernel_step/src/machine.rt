@@ -10,7 +10,8 @@ ghost use Rattle.rt_plain.specs.kernel.Sleeps.{Made};
 ghost use Rattle.rt_plain.specs.kernel.Sound.{IsSound};
 ghost use Rattle.rt_plain.specs.kernel.Steps.{happens};
 ghost use Rattle.kernel_step.specs.Built.{IsBuilt, is_built};
-ghost use Rattle.kernel_step.specs.Seen.{did_by, limit_of, picked_tick};
+ghost use Rattle.kernel_step.specs.Did.{did_by};
+ghost use Rattle.kernel_step.specs.MachineSeen.{limit_of, picked_tick};
 ghost use Rattle.kernel_step.specs.declared.machine.StartFault.TheVariants.{Memory};
 
 use crate::engine::Engine;
@@ -53,12 +54,12 @@ pub struct Machine {
 }
 
 impl Model for Machine {
-    ghost use Rattle.kernel_step.specs.Seen.{MachineSeen, spare_of};
+    ghost use Rattle.kernel_step.specs.MachineSeen.{MachineSeen, spare_of};
 
     ghost Value = { MachineSeen };
 
-    ghost use Rattle.kernel_step.specs.Inside.{IsMachine};
-    ghost use Rattle.kernel_step.specs.Whole.{state_of};
+    ghost use Rattle.kernel_step.specs.IsMachine.{IsMachine};
+    ghost use Rattle.kernel_step.specs.Engine.{state_of};
 
     ghost view = { λ m. record {
       board = m.engine.kernel.board;
@@ -71,7 +72,7 @@ impl Model for Machine {
 
 // What the test of a built board says.
 #[tactic(auto, using(crate::proofs::BuiltLemmas::built_facts))]
-fn facts(board: &Board)
+fn know_board(board: &Board)
     requires { is_built board.now ≡ true }
     ensures { IsBuilt board.now }
 {
@@ -110,16 +111,16 @@ impl Machine {
         if !is_built(&board) {
             return Err(StartFault::Later);
         }
-        Ok(Machine::opened(alloc, board)?)
+        Ok(Machine::open_built(alloc, board)?)
     }
 
     // A machine at the opening of a board that is built.
-    fn opened(alloc: Global, board: Board) -> Result<Machine, AllocError>
+    fn open_built(alloc: Global, board: Board) -> Result<Machine, AllocError>
         requires { is_built board ≡ true }
         ensures board { IfOk result (λ m. m.board ≡ board) }
         ensures course { IfOk result (λ m. m.course ≡ opened board) }
     {
-        facts(&board);
+        know_board(&board);
         let lines = Lines::new(alloc, room_for(&board))?;
         let engine = Engine::open(alloc, board)?;
         Ok(Machine {
@@ -160,7 +161,7 @@ impl Machine {
     // What the run so far says of the next event: no row is due, the last moment is ahead, numbers are small, and its
     // lines fit.
     #[tactic(auto, using(crate::proofs::MachineLemmas::on_way))]
-    fn is_on_way(&self)
+    fn know_on_way(&self)
         requires live { self.now.course.halt ≡ None }
         ensures none { due self.now.course.state ≡ [] }
         ensures moment { self.now.course.state.moment < 1099511627775 }
@@ -170,7 +171,7 @@ impl Machine {
         reached_states_are_sound();
         lines_fit_the_room();
         numbers_stay_small();
-        self.engine.facts();
+        self.engine.know_engine();
         let _until = self.engine.board().until;
         let _entries = self.journal.entries();
     }
@@ -190,7 +191,7 @@ impl Machine {
         if let Some(halt) = self.halt {
             return Did::Halted(halt);
         }
-        self.is_on_way();
+        self.know_on_way();
         let before = self.engine.tick();
         let did = self.engine.event(&event, &mut self.lines, steps);
         match did {
@@ -226,7 +227,7 @@ impl Machine {
         ensures { IsSound self.now.board self.now.course.state }
     {
         reached_states_are_sound();
-        self.engine.facts();
+        self.engine.know_engine();
     }
 
     /// How the machine has halted, none where it hasn't.

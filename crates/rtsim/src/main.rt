@@ -4,7 +4,7 @@
 ghost use Rattle.std.specs.Prelude.{◌≡◌, List, [], String, None};
 ghost use Rattle.std.specs.Process.{exit_status};
 ghost use Rattle.std.specs.declared.alloc.Global.{Global};
-ghost use Rattle.commands.specs.Words.{command_of, named_file};
+ghost use Rattle.commands.specs.Command.{command_of, named_file};
 ghost use Rattle.commands.specs.Asked.{TellsEnding};
 
 use commands::{Ending, rtsim};
@@ -28,7 +28,7 @@ fn given_words<R: Env + AllocGlobal>(rt: &R) -> Result<Vec<String>, AllocError> 
 }
 
 // Says that there was no memory for the words, and gives that status.
-fn refused<E: Sink>(err: &mut E) -> u8
+fn refuse<E: Sink>(err: &mut E) -> u8
     ensures status { result ≡ 9 }
     ensures told { TellsEnding None None [] result (E.holds err.old) (E.holds err.new) (E.faults err.old) (E.faults err.new) }
 {
@@ -37,7 +37,7 @@ fn refused<E: Sink>(err: &mut E) -> u8
 }
 
 // Does what the words ask for. The code is the status that the message tells of.
-fn answered<R: Env + AllocGlobal + Files, O: Sink, E: Sink>(
+fn answer<R: Env + AllocGlobal + Files, O: Sink, E: Sink>(
     rt: &R,
     out: &mut O,
     err: &mut E,
@@ -47,7 +47,7 @@ fn answered<R: Env + AllocGlobal + Files, O: Sink, E: Sink>(
 {
     let words = match given_words(rt) {
         Ok(words) => words,
-        Err(AllocError) => return ExitCode::from(refused(err)),
+        Err(AllocError) => return ExitCode::from(refuse(err)),
     };
     let mut files = DiskFiles::new(rt);
     let status = rtsim(rt.alloc(), &words, &mut files, out, err);
@@ -55,10 +55,10 @@ fn answered<R: Env + AllocGlobal + Files, O: Sink, E: Sink>(
 }
 
 // The same on the standard streams. Each has its type, so none is taken for the other.
-fn answered_on<R: Env + AllocGlobal + Files>(rt: &R, out: Stdout, err: Stderr) -> ExitCode {
-    answered(rt, &mut StdSink::new(out), &mut StdSink::new(err))
+fn answer_on<R: Env + AllocGlobal + Files>(rt: &R, out: Stdout, err: Stderr) -> ExitCode {
+    answer(rt, &mut StdSink::new(out), &mut StdSink::new(err))
 }
 
 fn main(rt: HostRuntime) -> ExitCode {
-    answered_on(&rt, rt.stdout(), rt.stderr())
+    answer_on(&rt, rt.stdout(), rt.stderr())
 }

@@ -18,7 +18,7 @@ fn strings(alloc: Global, words: &[&str]) -> Result<Vec<String>, AllocError> {
 }
 
 // Does a command over the board in the file `b`.
-fn told(alloc: Global, words: &[&str], outside: Outside) -> Result<Told, AllocError> {
+fn perform_on_board(alloc: Global, words: &[&str], outside: Outside) -> Result<Told, AllocError> {
     perform(alloc, &strings(alloc, words)?, BOARD, outside)
 }
 
@@ -26,12 +26,12 @@ fn told(alloc: Global, words: &[&str], outside: Outside) -> Result<Told, AllocEr
 #[test]
 fn a_failing_call_of_the_files_stops_the_command(rt: HostRuntime) -> Result<(), Fail> {
     for read in 1..7 {
-        let told = told(rt.alloc(), &["trace", "b"], Outside { read, ..GOOD })?;
+        let told = perform_on_board(rt.alloc(), &["trace", "b"], Outside { read, ..GOOD })?;
         assert_eq!(rt; told.status, 4);
         assert!(rt; told.out.bytes().is_empty());
         assert!(rt; told.err.bytes() == b"rtsim: read fault\n".as_slice());
     }
-    let told = told(rt.alloc(), &["trace", "b"], Outside { read: 7, ..GOOD })?;
+    let told = perform_on_board(rt.alloc(), &["trace", "b"], Outside { read: 7, ..GOOD })?;
     assert_eq!(rt; told.status, 0);
     Ok(())
 }
@@ -40,7 +40,7 @@ fn a_failing_call_of_the_files_stops_the_command(rt: HostRuntime) -> Result<(), 
 fn a_failing_put_leaves_a_front_of_the_text(rt: HostRuntime) -> Result<(), Fail> {
     let mut front = 0;
     for write in 1..10 {
-        let told = told(rt.alloc(), &["trace", "b"], Outside { write, ..GOOD })?;
+        let told = perform_on_board(rt.alloc(), &["trace", "b"], Outside { write, ..GOOD })?;
         assert_eq!(rt; told.status, 5);
         assert_eq!(rt; told.out.bytes().len(), front);
         assert!(rt; TRACE.starts_with(told.out.bytes()));
@@ -52,11 +52,11 @@ fn a_failing_put_leaves_a_front_of_the_text(rt: HostRuntime) -> Result<(), Fail>
 
 #[test]
 fn little_room_and_a_failing_line(rt: HostRuntime) -> Result<(), Fail> {
-    let small = told(rt.alloc(), &["run", "b"], Outside { room: 3, ..GOOD })?;
+    let small = perform_on_board(rt.alloc(), &["run", "b"], Outside { room: 3, ..GOOD })?;
     assert!(rt; small.status == 5 && small.out.bytes() == b"hib".as_slice());
-    let exact = told(rt.alloc(), &["run", "b"], Outside { room: 5, ..GOOD })?;
+    let exact = perform_on_board(rt.alloc(), &["run", "b"], Outside { room: 5, ..GOOD })?;
     assert!(rt; exact.status == 0 && exact.out.bytes() == b"hibye".as_slice());
-    let silent = told(
+    let silent = perform_on_board(
         rt.alloc(),
         &["trace", "nofile"],
         Outside { line: 1, ..GOOD },

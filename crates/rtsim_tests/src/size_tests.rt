@@ -13,7 +13,7 @@ const SETTINGS: &[u8] =
 const WIDE: Outside = Outside { most: 4096, ..GOOD };
 
 // Does a command over the board in the file `b`.
-fn told(alloc: Global, command: &str, board: &[u8]) -> Result<Told, AllocError> {
+fn perform_wide(alloc: Global, command: &str, board: &[u8]) -> Result<Told, AllocError> {
     let mut words = Vec::new(alloc);
     words.push(String::from_str(alloc, command)?)?;
     words.push(String::from_str(alloc, "b")?)?;
@@ -31,9 +31,9 @@ fn filled(alloc: Global, bytes: usize) -> Result<Vec<u8>, AllocError> {
 
 #[test]
 fn a_board_has_at_most_1048576_bytes(rt: HostRuntime) -> Result<(), Fail> {
-    let longest = told(rt.alloc(), "trace", &filled(rt.alloc(), 1_048_576)?)?;
+    let longest = perform_wide(rt.alloc(), "trace", &filled(rt.alloc(), 1_048_576)?)?;
     assert_eq!(rt; longest.status, 0);
-    let longer = told(rt.alloc(), "trace", &filled(rt.alloc(), 1_048_577)?)?;
+    let longer = perform_wide(rt.alloc(), "trace", &filled(rt.alloc(), 1_048_577)?)?;
     assert_eq!(rt; longer.status, 6);
     assert!(rt; longer.err.bytes() == b"rtsim: board too long\n".as_slice());
     Ok(())
@@ -58,10 +58,10 @@ fn talkative(alloc: Global, settings: &[u8], last: &[u8]) -> Result<Vec<u8>, All
 fn status_of_shown(rt: &impl Abort, alloc: Global, last: &[u8], bytes: usize) -> Result<u8, Fail> {
     let shown = talkative(alloc, SETTINGS, last)?;
     assert_eq!(rt; shown.len(), bytes);
-    let first = told(alloc, "show", &talkative(alloc, b"board 1\n", last)?)?;
+    let first = perform_wide(alloc, "show", &talkative(alloc, b"board 1\n", last)?)?;
     assert_eq!(rt; first.status, 0);
     assert!(rt; first.out.bytes() == shown.as_slice());
-    let again = told(alloc, "show", &shown)?;
+    let again = perform_wide(alloc, "show", &shown)?;
     assert!(rt; again.status == 6 || again.out.bytes() == shown.as_slice());
     Ok(again.status)
 }

@@ -2,7 +2,7 @@ use Rattle.std.proofs.Common.{◌≡◌, ◌∙◌, List, ap, sym, subst, is_som
 use Rattle.rt_plain.specs.declared.entry.Entry.{Entry}
 use Rattle.rt_plain.specs.PlainBoard.{PlainBoard}
 use Rattle.rt_plain.specs.runs.Runs.{Course, after}
-use Rattle.kernel_step.specs.Seen.{did_by}
+use Rattle.kernel_step.specs.Did.{did_by}
 use Rattle.core_runner.specs.Places.{plain_place}
 use Rattle.core_runner.specs.Moves.{with_coming, IsMove}
 use Rattle.core_runner.specs.Sleeps.{TellsSleepOf}

@@ -1,6 +1,6 @@
 use Rattle.std.specs.Prelude.{◌≡◌, length}
 use Rattle.rt_plain.specs.kernel.Due.{due}
-use Rattle.kernel_step.specs.Firing.{IsFiring}
+use Rattle.kernel_step.specs.IsFiring.{IsFiring}
 use Rattle.kernel_step.proofs.engine.fire_due.Given as goal
 
 abbrev pub invariant-loop-no : goal.invariant-loop-no

@@ -2,9 +2,9 @@ use Rattle.std.proofs.Common.{◌≡◌, None, Some, true, arith, ap, subst, sym
 use Rattle.rt_plain.specs.PlainBoard.{PlainBoard}
 use Rattle.rt_plain.specs.runs.Runs.{IsReached, after, is_event_of, room}
 use Rattle.kernel_step.specs.Built.{IsBuilt}
-use Rattle.kernel_step.specs.Whole.{state_of}
-use Rattle.kernel_step.specs.Seen.{MachineSeen}
-use Rattle.kernel_step.specs.Inside.{course_of}
+use Rattle.kernel_step.specs.Engine.{state_of}
+use Rattle.kernel_step.specs.MachineSeen.{MachineSeen}
+use Rattle.kernel_step.specs.IsMachine.{course_of}
 use Rattle.kernel_step.proofs.BuiltLemmas.{room-enough}
 use Rattle.kernel_step.proofs.StepLemmas.{engine-halt}
 use Rattle.kernel_step.proofs.MachineLemmas.{after-halted, after-makes, after-same, after-halts, reached-after}

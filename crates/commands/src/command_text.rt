@@ -3,10 +3,10 @@ ghost use Rattle.rt_plain.specs.runs.Commands.{run_text, console_text};
 ghost use Rattle.rt_plain.specs.runs.Ends.{end_of};
 ghost use Rattle.rt_plain.specs.text.Texts.{trace_text, console_of};
 ghost use Rattle.journal.specs.Ending.{ending};
-ghost use Rattle.commands.specs.Words.{plain};
+ghost use Rattle.commands.specs.Command.{plain};
 ghost use Rattle.commands.specs.Boards.{IsBoardFile, HasRun, IsRunText, IsShown, IsText, IsCauseOf, IsNoBoard, IsNoRun};
 
-use crate::words::Command;
+use crate::args::Command;
 use board_show::show;
 use board_text::{BoardFault, parse};
 use core_runner::{RunFault, run};
@@ -54,7 +54,7 @@ fn board_of(alloc: Global, bytes: &[u8]) -> Result<Board, Refusal>
 }
 
 // The machine after the run of the board that the bytes spell.
-fn ran(alloc: Global, bytes: &[u8]) -> Result<Machine, Refusal>
+fn run_board(alloc: Global, bytes: &[u8]) -> Result<Machine, Refusal>
     requires { length bytes.now ≤ 1048576 }
     ensures run { IfOk result (λ machine. HasRun bytes.now machine.board machine.course) }
     ensures cause { IfErr result (IsNoRun bytes.now) }
@@ -76,12 +76,12 @@ fn trace_of(alloc: Global, machine: &Machine) -> Result<List<u8>, AllocError>
 }
 
 // The trace of the run of the board that the bytes spell.
-fn traced(alloc: Global, bytes: &[u8]) -> Result<List<u8>, Refusal>
+fn trace_board(alloc: Global, bytes: &[u8]) -> Result<List<u8>, Refusal>
     requires { length bytes.now ≤ 1048576 }
     ensures text { IfOk result (IsRunText run_text bytes.now) }
     ensures cause { IfErr result (IsNoRun bytes.now) }
 {
-    let machine = ran(alloc, bytes)?;
+    let machine = run_board(alloc, bytes)?;
     match trace_of(alloc, &machine) {
         Ok(text) => Ok(text),
         Err(AllocError) => Err(Refusal::Memory),
@@ -96,12 +96,12 @@ fn console_of(alloc: Global, machine: &Machine) -> Result<List<u8>, AllocError>
 }
 
 // The console of the run of the board that the bytes spell.
-fn printed(alloc: Global, bytes: &[u8]) -> Result<List<u8>, Refusal>
+fn print_board(alloc: Global, bytes: &[u8]) -> Result<List<u8>, Refusal>
     requires { length bytes.now ≤ 1048576 }
     ensures text { IfOk result (IsRunText console_text bytes.now) }
     ensures cause { IfErr result (IsNoRun bytes.now) }
 {
-    let machine = ran(alloc, bytes)?;
+    let machine = run_board(alloc, bytes)?;
     match console_of(alloc, &machine) {
         Ok(text) => Ok(text),
         Err(AllocError) => Err(Refusal::Memory),
@@ -109,7 +109,7 @@ fn printed(alloc: Global, bytes: &[u8]) -> Result<List<u8>, Refusal>
 }
 
 // The canonical text of the board that the bytes spell.
-fn shown(alloc: Global, bytes: &[u8]) -> Result<List<u8>, Refusal>
+fn show_board(alloc: Global, bytes: &[u8]) -> Result<List<u8>, Refusal>
     requires { length bytes.now ≤ 1048576 }
     ensures text { IfOk result (IsShown bytes.now) }
     ensures cause { IfErr result (IsNoBoard bytes.now) }
@@ -130,8 +130,8 @@ pub(crate) fn text_of(alloc: Global, command: Command, bytes: &[u8]) -> Result<L
     ensures cause { IfErr result (IsCauseOf (plain command.entry) bytes.now) }
 {
     match command {
-        Command::Trace(_) => traced(alloc, bytes),
-        Command::Run(_) => printed(alloc, bytes),
-        Command::Show(_) => shown(alloc, bytes),
+        Command::Trace(_) => trace_board(alloc, bytes),
+        Command::Run(_) => print_board(alloc, bytes),
+        Command::Show(_) => show_board(alloc, bytes),
     }
 }

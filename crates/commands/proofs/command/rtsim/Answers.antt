@@ -1,8 +1,8 @@
 use Rattle.std.proofs.Common.{◌≡◌, ◌⊎◌, ◌∙◌, ℕ, ap, subst, sym}
-use Rattle.commands.specs.Endings.{message}
+use Rattle.commands.specs.Ending.{message}
 use Rattle.commands.proofs.SaidLemmas.{said}
-use Rattle.commands.proofs.TopLemmas.{refused-comes, unbuilt-comes, limited-comes, done-comes, refused-by}
-use Rattle.commands.proofs.top.rtsim.Goals as goal
+use Rattle.commands.proofs.CommandLemmas.{refused-comes, unbuilt-comes, limited-comes, done-comes, refused-by}
+use Rattle.commands.proofs.command.rtsim.Goals as goal
 
 pub returns-clause-refused : goal.returns-clause-refused
 returns-clause-refused g c = λ is. refused-by _ _ c.perform-ending.result c.perform-ending.ensures.cause (sym c.status.ensures ∙ is)

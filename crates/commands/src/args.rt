@@ -1,6 +1,6 @@
 ghost use Rattle.std.specs.Prelude.{◌≡◌};
 ghost use Rattle.std.specs.Option.{option_map};
-ghost use Rattle.commands.specs.Words.{command_of, named_file, plain, file_of};
+ghost use Rattle.commands.specs.Command.{command_of, named_file, plain, file_of};
 
 /// What the words ask for.
 #[derive(Clone, Copy, Debug, PartialEq, Eq)]

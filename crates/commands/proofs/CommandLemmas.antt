@@ -9,7 +9,7 @@ use Rattle.rt_plain.specs.runs.Ends.{run_of}
 use Rattle.kernel_step.specs.Built.{is_built}
 use Rattle.commands.specs.Boards.{IsRun, IsShow, IsBoardFile, IsBuiltFile, IsTooLong, HasBadLine, IsRefused, IsUnbuilt, IsUnbuiltRun, IsText, IsRunText, IsOver, IsOverRun, Halts, Stops, HasText}
 use Rattle.commands.specs.Asked.{IfAsked, IsMissing, AsksFor, HasWritten, HasBegun, HasCause}
-use Rattle.commands.specs.Endings.{status_of}
+use Rattle.commands.specs.Ending.{status_of}
 use Rattle.commands.specs.declared.ending.Ending.{Ending}
 use Rattle.commands.specs.declared.ending.Ending.TheVariants.{Done, Usage, Missing, Unreadable, Unwritable, TooLong, BadLine, NotBuilt, Limited, Memory}
 

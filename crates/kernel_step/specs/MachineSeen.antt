@@ -1,13 +1,8 @@
 -- What contracts see of a machine.
 use Rattle.std.specs.Prelude.{ℕ, Option, Some, None, length, is_some, not, ◌||◌, if◌then◌else◌, nat_lt}
-use Rattle.rt_base.specs.declared.codes.Halt.{Halt}
 use Rattle.rt_base.specs.declared.codes.Event.{Event}
 use Rattle.rt_plain.specs.PlainBoard.{PlainBoard}
-use Rattle.rt_plain.specs.kernel.Sleeps.{Did as Happened, Made, Same as Nothing, Halted as Ended}
-use Rattle.rt_plain.specs.kernel.Steps.{happens}
 use Rattle.rt_plain.specs.runs.Runs.{Course, is_over, line_count}
-use Rattle.kernel_step.specs.declared.did.Did.{Did}
-use Rattle.kernel_step.specs.declared.did.Did.TheVariants.{Entry as Entered, Same as Stayed, Halted}
 
 -- the board, what has happened, and how many lines fit besides
 pub record MachineSeen : Type 0 where
@@ -18,21 +13,6 @@ pub record MachineSeen : Type 0 where
 -- the lines that fit, none where no entry does
 abbrev pub spare_of : ℕ → ℕ → ℕ
 spare_of entries lines = if nat_lt 0 entries then lines else 0
-
--- what the code calls what an event did
-abbrev pub did_of : Happened → Did
-did_of (Made s lines) = Entered
-did_of Nothing = Stayed
-did_of (Ended h) = Halted h
-
--- the same, where it may have halted before
-abbrev pub did_in : Option Halt → Happened → Did
-did_in None answer = did_of answer
-did_in (Some h) answer = Halted h
-
--- what an event of a machine answers
-abbrev pub did_by : PlainBoard → Course → Event → Did
-did_by b c e = did_in c.halt (happens b c.state e)
 
 -- the tick that an entry shows: that before a step, and that after a tick
 abbrev pub picked_tick : Event → ℕ → ℕ → ℕ

@@ -2,7 +2,7 @@ use Rattle.std.proofs.Common.{Err, Result, ◌≡◌, ◌∙◌, ℕ, Bool, true
 use Rattle.rt_plain.specs.runs.Runs.{is_over}
 use Rattle.core_runner.specs.Limits.{MeetsLimit}
 use Rattle.core_runner.specs.declared.fault.RunFault.{RunFault}
-use Rattle.commands.proofs.tracing.ran.Goals as goal
+use Rattle.commands.proofs.command_text.run_board.Goals as goal
 
 -- what isn't false is true
 not_false : (c : Bool) → (c ≡ false → ⊥) → c ≡ true

@@ -6,7 +6,7 @@ use Rattle.std.specs.Str.{bytes_eq}
 use Rattle.std.proofs.lemmas.Slice.Eq.{bytes_eq-Decides}
 use Rattle.std.specs.declared.alloc.Global.{Global}
 use Rattle.rt_plain.specs.runs.Commands.{Command, number_within, numbered_command, live_of, sweep_of, cycle_of, two_words, three_words, four_words, command_of as defined_command_of}
-use Rattle.commands.specs.Words.{command_of, one_file, if_built}
+use Rattle.commands.specs.Command.{command_of, one_file, if_built}
 
 -- no command that is built comes of it
 abbrev IsUnbuilt : Option Command → Type 0

@@ -1,7 +1,7 @@
 use Rattle.std.proofs.Common.{refl}
 use Rattle.commands.specs.declared.ending.Ending.TheVariants.{Memory}
 use Rattle.commands.proofs.SaidLemmas.{said}
-use Rattle.rtsim.proofs.refused.Goals as goal
+use Rattle.rtsim.proofs.refuse.Goals as goal
 
 pub returns-clause-told : goal.returns-clause-told
 returns-clause-told g c = record {

@@ -4,8 +4,8 @@ use Rattle.std.specs.declared.alloc.Global.{Global}
 use Rattle.std.specs.Str.{bytes_eq}
 use Rattle.std.specs.Option.{option_map_or}
 use Rattle.rt_plain.specs.runs.Commands.{Command}
-use Rattle.commands.specs.declared.words.Command.{Command as Asked}
-use Rattle.commands.specs.declared.words.Command.TheVariants.{Trace, Run, Show}
+use Rattle.commands.specs.declared.args.Command.{Command as Asked}
+use Rattle.commands.specs.declared.args.Command.TheVariants.{Trace, Run, Show}
 
 -- a command of one file
 abbrev pub one_file : List ℕ → List ℕ → Option Command
