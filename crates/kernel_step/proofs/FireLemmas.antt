@@ -10,7 +10,8 @@ use Rattle.rt_plain.specs.kernel.Due.{due, due_rows_effect, timeout_effect}
 use Rattle.rt_plain.specs.kernel.Ticks.{alarms_effect}
 use Rattle.rt_plain.specs.runs.Schedules.{is_sleep}
 use Rattle.rt_kernel.specs.PlainKernel.{PlainKernel}
-use Rattle.rt_kernel.specs.Due.{first_alarm, taken}
+use Rattle.kernel_timers.specs.Alarmed.{first_alarm}
+use Rattle.rt_kernel.specs.Due.{taken}
 use Rattle.kernel_step.specs.IsFiring.{IsFiring, rest_effect}
 use Rattle.kernel_step.proofs.StepLemmas.{awake-append}
 

@@ -33,7 +33,8 @@ pub(crate) struct Engine {
     pub(crate) halt: Option<Halt>,
 }
 
-// All rows that are due fire, the one that was armed first before the others.
+// All rows that are due fire, the one that was armed first before the others. One row is looked up for each that fires,
+// and then the next one, which isn't due.
 fn fire_due<L: Ledger>(kernel: &mut Kernel, out: &mut Lines, steps: &mut Steps<L>)
     requires lines { length out.old.items + 2 * length (due kernel.old.state) ≤ out.old.room }
     requires awake { is_sleep out.old.items ≡ false }
@@ -43,6 +44,7 @@ fn fire_due<L: Ledger>(kernel: &mut Kernel, out: &mut Lines, steps: &mut Steps<L
     ensures out_room { out.new.room ≡ out.old.room }
     ensures awake { is_sleep out.new.items ≡ false }
     ensures numbers { kernel.new.state.numbers ≡ kernel.old.state.numbers }
+    ensures count { steps.new ≤ steps.old + 1 + length (due kernel.old.state) }
 {
     while let Some(no) = kernel.take_due(steps) {
         kernel.fire(no, out, steps);

@@ -1,3 +1,4 @@
 pub mod AlarmLemmas
 pub mod RowLemmas
+pub mod StartLemmas
 pub mod TimerLemmas

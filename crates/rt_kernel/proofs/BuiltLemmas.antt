@@ -19,6 +19,8 @@ use Rattle.rt_plain.specs.kernel.Sound.{is_levelled}
 use Rattle.ready_list.specs.Depths.{is_depth}
 use Rattle.kernel_tables.specs.Opened.{HasFittingObjects}
 use Rattle.rt_kernel.specs.Built.{is_built, IsBuilt, is_built_thread, is_built_statement}
+use Rattle.std.proofs.lemmas.List.Elements.{recursion_from_All}
+use Rattle.rt_plain.specs.kernel.Sound.{IsProper, is_timed}
 
 no_items : {A : Type 0} (xs : List A) → eqb (length xs) 0 ≡ true → xs ≡ []
 no_items [] is = refl
@@ -120,3 +122,12 @@ statement-levelled levels (st ∷ script) (suc i) all = statement-levelled level
 
 pub all-levelled : (b : PlainBoard) (name : List ℕ) (k : ℕ) → IsBuilt b → is_levelled b.levels (statement_at (script_of b name) k) ≡ true
 all-levelled b name k built = statement-levelled b.levels (script_of b name) (k - 1) (script-all b name (λ script. list_all (is_levelled b.levels) script ≡ true) refl (recursion_from_All (λ (def : ThreadDef). list_all (is_levelled b.levels) def.script ≡ true) b.threads built.levelled.scripts))
+
+-- each statement of a board waits no longer than it may
+statement-timed : (script : List Stmt) (i : ℕ) → list_all is_timed script ≡ true → is_timed (unwrap_or (slice_get script i) Stmt.Exit) ≡ true
+statement-timed [] i all = refl
+statement-timed (st ∷ script) zero all = (both (is_timed st) (list_all is_timed script) all).0
+statement-timed (st ∷ script) (suc i) all = statement-timed script i (both (is_timed st) (list_all is_timed script) all).1
+
+pub all-timed : (b : PlainBoard) (name : List ℕ) (k : ℕ) → IsProper b → is_timed (statement_at (script_of b name) k) ≡ true
+all-timed b name k proper = statement-timed (script_of b name) (k - 1) (script-all b name (λ script. list_all is_timed script ≡ true) refl (recursion_from_All (λ (def : ThreadDef). list_all is_timed def.script ≡ true) b.threads proper.scripts))

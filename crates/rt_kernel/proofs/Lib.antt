@@ -1,7 +1,6 @@
 pub mod BuiltLemmas
 pub mod CurLemmas
 pub mod DoesLemmas
-pub mod DueLemmas
 pub mod EndLemmas
 pub mod EventCallLemmas
 pub mod HeadLemmas

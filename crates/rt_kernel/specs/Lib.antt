@@ -6,6 +6,7 @@ pub mod Due
 pub mod HasRoom
 pub mod IsKernel
 pub mod Limits
+pub mod MayWait
 pub mod NewBase
 pub mod NextCall
 pub mod Plain

@@ -8,7 +8,7 @@ use Rattle.rt_kernel.specs.declared.state.State.{State as KernelState}
 -- the state
 abbrev pub state_of : KernelState → State
 state_of k = record {
-  moment = k.moment;
+  moment = k.armed.moment;
   numbers = k.numbers;
   threads = k.tables.threads;
   sems = k.tables.sems;
@@ -18,11 +18,11 @@ state_of k = record {
   mailboxes = [];
   queues = [];
   pools = [];
-  timers = [];
+  timers = k.armed.timers;
   devices = new_console ∷ [];
   ready = k.tables.ready;
   running = k.running ∷ [];
-  armed = k.armed;
+  armed = k.armed.rows;
   works = [];
   votes = replicate 6 0;
   run_mode = RunMode.Normal;

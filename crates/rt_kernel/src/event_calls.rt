@@ -1,4 +1,4 @@
-ghost use Rattle.std.specs.Prelude.{◌≡◌, ◌+◌, Some, length};
+ghost use Rattle.std.specs.Prelude.{◌≡◌, ◌+◌, Some, true, length};
 ghost use Rattle.rt_plain.specs.kernel.Calls.{outcome_of};
 ghost use Rattle.rt_plain.specs.kernel.Outcome.{with_value};
 ghost use Rattle.rt_plain.specs.kernel.EventCalls.{event_create, event_send, event_recv};
@@ -10,6 +10,8 @@ ghost use Rattle.rt_kernel.specs.Caller.{plain_by, plain_attempt, IsThere};
 ghost use Rattle.rt_kernel.specs.Does.{Does};
 ghost use Rattle.rt_kernel.specs.HasRoom.{HasRoom};
 ghost use Rattle.rt_kernel.specs.Limits.{limits_of, board_limits};
+ghost use Rattle.rt_kernel.specs.MayWait.{IsFree, MayMake};
+ghost use Rattle.rt_plain.specs.kernel.Sound.{is_timeout};
 ghost use Rattle.rt_kernel.specs.View.{state_of};
 
 use crate::answer::Answer;
@@ -32,6 +34,7 @@ impl State {
     ) -> Answer
         requires limits { limits_of self.old.tables ≡ board_limits board.now }
         requires subject { subject_of call.now ≡ Some OnEvents }
+        requires may { MayMake self.old.armed by call.now }
         requires there { IsThere by self.old.tables }
         requires room { HasRoom self.old out.old (1 + length self.old.tables.threads) }
         ensures { Does self.old self.new out.old out.new result (1 + length self.old.tables.threads) (outcome_of board.now call.now (state_of self.old) (plain_by (state_of self.old) by) (plain_attempt attempt)) }
@@ -95,6 +98,8 @@ impl State {
         timeout: Option<u32>,
         out: &mut Lines,
     ) -> Answer
+        requires free { IsFree self.old.armed by }
+        requires span { is_timeout timeout ≡ true }
         requires there { IsThere by self.old.tables }
         requires room { HasRoom self.old out.old 0 }
         ensures { Does self.old self.new out.old out.new result 0 (event_recv name.now (plain_want want) timeout (state_of self.old) (plain_by (state_of self.old) by)) }

@@ -1,4 +1,4 @@
-ghost use Rattle.std.specs.Prelude.{◌≡◌, ◌+◌, ◌<◌, true, length};
+ghost use Rattle.std.specs.Prelude.{◌≡◌, ◌+◌, ◌<◌, true, false, length};
 ghost use Rattle.rt_plain.specs.declared.line.Line.TheVariants.{Done as DoneLine, Again as AgainLine, Fire as FireLine};
 ghost use Rattle.rt_plain.specs.kernel.Effects.{name_of};
 ghost use Rattle.rt_plain.specs.kernel.Outcome.{ByThread, ByTimer, First, Again};
@@ -13,6 +13,10 @@ ghost use Rattle.rt_kernel.specs.declared.caller.Caller.TheVariants.{Thread as C
 ghost use Rattle.rt_kernel.specs.HasRoom.{HasRoom};
 ghost use Rattle.rt_kernel.specs.NewBase.{moved_outcome};
 ghost use Rattle.rt_kernel.specs.Limits.{limits_of, board_limits};
+ghost use Rattle.rt_kernel.specs.MayWait.{IsFree, MayMake};
+ghost use Rattle.rt_plain.specs.kernel.Sound.{is_timed_call};
+ghost use Rattle.rt_plain.specs.kernel.State.{OfThread};
+ghost use Rattle.kernel_timers.specs.Alarmed.{is_armed};
 ghost use Rattle.rt_kernel.specs.View.{state_of};
 
 use crate::answer::Answer;
@@ -36,6 +40,7 @@ impl State {
         requires built { is_built_call call.now ≡ true }
         requires level { is_levelled_call self.old.tables.levels call.now ≡ true }
         requires limits { limits_of self.old.tables ≡ board_limits board.now }
+        requires may { MayMake self.old.armed by call.now }
         requires there { IsThere by self.old.tables }
         requires room { HasRoom self.old out.old (1 + length self.old.tables.threads) }
         ensures { Does self.old self.new out.old out.new result (1 + length self.old.tables.threads) (moved_outcome board.now call.now (state_of self.old) (plain_by (state_of self.old) by) (plain_attempt attempt)) }
@@ -75,6 +80,8 @@ impl State {
         requires built { is_built_call call.now ≡ true }
         requires level { is_levelled_call self.old.tables.levels call.now ≡ true }
         requires limits { limits_of self.old.tables ≡ board_limits board.now }
+        requires free { is_armed (OfThread t) self.old.armed.rows ≡ false }
+        requires timed { is_timed_call call.now ≡ true }
         requires there { IsThere (CallerOn t core) self.old.tables }
         requires room { HasRoom self.old out.old (2 + length self.old.tables.threads) }
         ensures { Does self.old self.new out.old out.new result (2 + length self.old.tables.threads) (headed t (DoneLine (name_of (state_of self.old) t) k) (moved_outcome board.now call.now (state_of self.old) (ByThread t core) First)) }
@@ -103,6 +110,8 @@ impl State {
         requires built { is_built_call call.now ≡ true }
         requires level { is_levelled_call self.old.tables.levels call.now ≡ true }
         requires limits { limits_of self.old.tables ≡ board_limits board.now }
+        requires free { is_armed (OfThread t) self.old.armed.rows ≡ false }
+        requires timed { is_timed_call call.now ≡ true }
         requires there { IsThere (CallerOn t core) self.old.tables }
         requires room { HasRoom self.old out.old (2 + length self.old.tables.threads) }
         ensures { Does self.old self.new out.old out.new result (2 + length self.old.tables.threads) (headed t (AgainLine (name_of (state_of self.old) t) k) (moved_outcome board.now call.now (state_of self.old) (ByThread t core) (Again due))) }
@@ -134,6 +143,7 @@ impl State {
         requires built { is_built_call call.now ≡ true }
         requires level { is_levelled_call self.old.tables.levels call.now ≡ true }
         requires limits { limits_of self.old.tables ≡ board_limits board.now }
+        requires timed { is_timed_call call.now ≡ true }
         requires room { HasRoom self.old out.old (2 + length self.old.tables.threads) }
         ensures { Acts self.old self.new out.old out.new (2 + length self.old.tables.threads) (timer_call_effect (FireLine name.now) (moved_outcome board.now call.now (state_of self.old) (ByTimer (timer_name (state_of self.old) timer)) First)) }
     {

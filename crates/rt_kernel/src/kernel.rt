@@ -1,4 +1,4 @@
-ghost use Rattle.std.specs.Prelude.{◌≡◌, ◌+◌, ◌<◌, ◌≤◌, ◌^◌, ◌-◌, ◌==◌, ◌++◌, [], ℕ, true, false, length, filter, is_some, IsSome, Some, None, IfSome, IfOk, if◌then◌else◌};
+ghost use Rattle.std.specs.Prelude.{◌≡◌, ◌+◌, ◌<◌, ◌≤◌, ◌^◌, ◌-◌, ◌==◌, ◌++◌, [], ℕ, All, true, false, length, filter, is_some, IsSome, Some, None, IfSome, IfOk, if◌then◌else◌};
 ghost use Rattle.rt_plain.specs.kernel.Opening.{open_state};
 ghost use Rattle.rt_plain.specs.kernel.Shown.{shown};
 ghost use Rattle.std.specs.Option.{option_map};
@@ -16,7 +16,8 @@ ghost use Rattle.rt_plain.specs.kernel.Kept.{Kept};
 ghost use Rattle.rt_kernel.specs.Built.{IsBuilt, is_built};
 ghost use Rattle.rt_kernel.specs.declared.caller.Caller.TheVariants.{Thread as CallerOn};
 ghost use Rattle.rt_kernel.specs.Answer.{plain_answer};
-ghost use Rattle.rt_kernel.specs.Due.{first_alarm, taken};
+ghost use Rattle.kernel_timers.specs.Alarmed.{first_alarm, is_armed};
+ghost use Rattle.rt_kernel.specs.Due.{taken};
 ghost use Rattle.rt_kernel.specs.IsKernel.{frame_of, IsInOrder};
 ghost use Rattle.rt_kernel.specs.NextCall.{begun};
 ghost use Rattle.rt_kernel.specs.Plain.{is_plain};
@@ -62,8 +63,10 @@ fn know_state(board: &Board, state: &State)
     requires built { IsBuilt board.now }
     requires kept { Kept (frame_of board.now (state_of state.now)) (state_of state.now) }
     ensures count { length state.now.tables.threads ≡ length board.now.threads }
-    ensures armed { length state.now.armed ≤ 256 }
-    ensures moment { state.now.moment ≤ 1099511627775 }
+    ensures latest { All (λ row. row.number < state.now.numbers) state.now.armed.rows }
+    ensures timers { state.now.armed.timers ≡ [] }
+    ensures free { (r : ℕ) → state.now.running ≡ Some r → is_armed (OfThread r) state.now.armed.rows ≡ false }
+    ensures moment { state.now.armed.moment ≤ 1099511627775 }
     ensures once { (u : ℕ) → length (filter (λ v. v == u) state.now.tables.ready) ≤ 1 }
     ensures running { IfSome state.now.running (λ r. IsOnCore state.now.tables r) }
     ensures next { (r : ℕ) → state.now.running ≡ Some r → (row_at state.now.tables.threads r).next < 2 ^ 16 - 1 }
@@ -126,7 +129,7 @@ impl Kernel {
         ensures early { result ≤ 1099511627775 }
     {
         know_state(&self.board, &self.state);
-        self.state.moment
+        self.state.armed.moment()
     }
 
     /// The tick that is shown now: the board's first one and the moment, modulo 4294967296.
@@ -292,7 +295,8 @@ impl Kernel {
         self.state.begin_tick();
     }
 
-    /// Takes the row that fires first of those due at the moment: `None` exactly where none is due.
+    /// Takes the row that fires first of those due at the moment: `None` exactly where none is due. It counts one read, of
+    /// the row that fires next.
     pub fn take_due<L: Ledger>(&mut self, steps: &mut Steps<L>) -> Option<TimerNo>
         ensures board { self.new.board ≡ self.old.board }
         ensures first { first_alarm (due self.old.state) ≡ option_map OfThread result }
@@ -300,9 +304,10 @@ impl Kernel {
         ensures waits { IfSome result (λ t. is_waiting (thread_at self.new.state t).stage ≡ true) }
         ensures fewer { IfSome result (λ t. length (due self.new.state) < length (due self.old.state)) }
         ensures none { result ≡ None → due self.new.state ≡ [] }
+        ensures count { steps.new ≡ steps.old + 1 }
     {
-        let t = self.state.take_due()?;
-        Some(TimerNo(t.0))
+        know_state(&self.board, &self.state);
+        self.state.take_due(steps)
     }
 
     /// The row of a thread fires, which it has no more: the thread leaves its wait, with 0 where it was in `delay`, and
@@ -316,6 +321,7 @@ impl Kernel {
         ensures due { length (due self.new.state) ≤ length (due self.old.state) }
         ensures few { length out.new.items ≡ length out.old.items + 2 }
         ensures numbers { self.new.state.numbers ≡ self.old.state.numbers }
+        ensures count { steps.new ≡ steps.old }
         ensures out_room { out.new.room ≡ out.old.room }
     {
         know_state(&self.board, &self.state);

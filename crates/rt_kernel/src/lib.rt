@@ -2,7 +2,6 @@
 #![tactic(auto)]
 
 mod answer;
-mod armed;
 mod built;
 mod caller;
 mod event_calls;

@@ -4,26 +4,25 @@ ghost use Rattle.rt_kernel.specs.Built.{IsBuilt};
 ghost use Rattle.rt_kernel.specs.Limits.{limits_of, board_limits};
 ghost use Rattle.rt_kernel.specs.View.{state_of};
 
-use crate::armed::ArmedRows;
 use crate::state::State;
 use kernel_tables::{Tables, ThreadList, WokenThreads};
+use kernel_timers::Alarms;
 use rt_plain::Board;
 use std::alloc::{AllocError, Global};
 
 impl State {
     // The kernel's state as the board opens. No later call takes memory.
-    #[tactic(auto, using(crate::proofs::OpenLemmas::may_open))]
+    #[tactic(auto, using(crate::proofs::OpenLemmas::opens))]
     pub fn open(alloc: Global, board: &Board) -> Result<State, AllocError>
         requires { IsBuilt board.now }
         ensures state { IfOk result (λ k. state_of k ≡ open_state board.now) }
         ensures limits { IfOk result (λ k. limits_of k.tables ≡ board_limits board.now) }
     {
-        let armed = ArmedRows::new(alloc)?;
+        let armed = Alarms::open(alloc, board.timers.as_slice())?;
         let waited = ThreadList::new(alloc)?;
         let woken = WokenThreads::new(alloc)?;
         let tables = Tables::open(alloc, board)?;
         Ok(State {
-            moment: 0,
             numbers: 0,
             tables,
             running: None,

@@ -8,6 +8,9 @@ ghost use Rattle.rt_kernel.specs.Limits.{limits_of, board_limits};
 ghost use Rattle.rt_kernel.specs.NewBase.{new_base, shown_effect};
 ghost use Rattle.rt_kernel.specs.NextCall.{settled_call};
 ghost use Rattle.kernel_tables.specs.Threads.{row_at};
+ghost use Rattle.rt_plain.specs.kernel.Sound.{is_timed_call};
+ghost use Rattle.rt_plain.specs.kernel.State.{OfThread};
+ghost use Rattle.kernel_timers.specs.Alarmed.{is_armed};
 ghost use Rattle.rt_kernel.specs.View.{state_of};
 
 use crate::answer::Answer;
@@ -63,6 +66,8 @@ impl State {
         out: &mut Lines,
     ) -> Answer
         requires built { is_built_call call.now ≡ true }
+        requires free { is_armed (OfThread t) self.old.armed.rows ≡ false }
+        requires timed { is_timed_call call.now ≡ true }
         requires limits { limits_of self.old.tables ≡ board_limits board.now }
         requires there { t < length self.old.tables.threads }
         requires unready { is_among self.old.tables.ready t ≡ false }

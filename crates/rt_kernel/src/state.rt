@@ -1,4 +1,4 @@
-ghost use Rattle.std.specs.Prelude.{◌≡◌, ◌+◌, ◌<◌, ◌≤◌, ◌^◌, ◌++◌, ◌∷◌, [], length, Some, None, true, false, ◌==◌};
+ghost use Rattle.std.specs.Prelude.{◌≡◌, ◌+◌, ◌<◌, ◌≤◌, ◌^◌, ◌++◌, ◌∷◌, [], All, length, Some, None, true, false, ◌==◌};
 ghost use Rattle.rt_plain.specs.declared.line.Line.TheVariants.{Wake as WakeLine};
 ghost use Rattle.rt_plain.specs.declared.line.Woke.TheVariants.{Code as WokeCode};
 ghost use Rattle.rt_plain.specs.kernel.Sound.{is_active};
@@ -9,24 +9,24 @@ ghost use Rattle.rt_plain.specs.kernel.Owners.{close_effect, withdrawn_state};
 ghost use Rattle.rt_kernel.specs.Wake.{followed};
 ghost use Rattle.rt_kernel.specs.Does.{Acts};
 ghost use Rattle.rt_kernel.specs.Limits.{limits_of};
+ghost use Rattle.rt_kernel.specs.MayWait.{MayWait};
 ghost use Rattle.kernel_tables.specs.Tabled.{knows};
 ghost use Rattle.kernel_tables.specs.Threads.{row_at};
 ghost use Rattle.rt_kernel.specs.View.{state_of};
 
-use crate::armed::{Armed, ArmedRows};
 use kernel_tables::{Tables, ThreadList, WokenThreads};
+use kernel_timers::Alarms;
 use rt_base::{Code, Name, ThreadNo};
 use rt_plain::{Call, Line, Lines, Woke};
 
 /// The kernel's state.
 #[derive(Drop)]
 pub struct State {
-    /// How many ticks have passed since opening.
-    pub moment: u64,
     pub numbers: u64,
     pub tables: Tables,
     pub running: Option<ThreadNo>,
-    pub armed: ArmedRows,
+    /// The moment, the timers and what is armed.
+    pub armed: Alarms,
     pub waited: ThreadList,
     pub woken: WokenThreads,
 }
@@ -62,7 +62,9 @@ impl State {
         ensures limits { limits_of self.new.tables ≡ limits_of self.old.tables }
     {
         self.tables.activate(t);
-        self.armed.remove(t);
+        // There are at most 256 threads.
+        let _ = self.tables.threads().len();
+        self.armed.disarm_wait(t);
     }
 
     // An initial thread becomes ready.
@@ -98,33 +100,33 @@ impl State {
         ensures waited { self.new.waited ≡ self.old.waited }
         ensures woken { self.new.woken ≡ self.old.woken }
         ensures numbers { self.new.numbers ≡ self.old.numbers }
-        ensures moment { self.new.moment ≡ self.old.moment }
+        ensures moment { self.new.armed.moment ≡ self.old.armed.moment }
         ensures out_room { out.new.room ≡ out.old.room }
     {
         out.push(Line::Wake(self.tables.threads().name(t), Woke::Code(code)));
-        self.armed.remove(t);
+        // There are at most 256 threads.
+        let _ = self.tables.threads().len();
+        self.armed.disarm_wait(t);
     }
 
     // The thread waits in a call, until a moment if one is given.
     pub fn wait(&mut self, t: ThreadNo, call: Call, due: Option<u64>)
         requires there { t < length self.old.tables.threads }
         requires unready { is_among self.old.tables.ready t ≡ false }
-        requires room { length self.old.armed < 512 }
+        requires may { MayWait self.old.armed t due }
+        requires latest { All (λ row. row.number < self.old.numbers) self.old.armed.rows }
         requires number { self.old.numbers + 2 < 2 ^ 64 }
         requires known { knows self.old.tables call ≡ true }
         ensures state { state_of self.new ≡ waiting_state (state_of self.old) t (InCall call) due }
         ensures limits { limits_of self.new.tables ≡ limits_of self.old.tables }
     {
+        // There are at most 256 threads.
+        let _ = self.tables.threads().len();
         self.leave_core(t);
         self.tables.wait(t, call, self.numbers);
         self.numbers += 1;
         if let Some(due) = due {
-            let number = self.numbers;
-            self.armed.push(Armed {
-                due,
-                number,
-                thread: t,
-            });
+            self.armed.arm_wait(t, due, self.numbers);
             self.numbers += 1;
         }
     }
@@ -147,7 +149,9 @@ impl State {
     {
         self.tables.close(t);
         self.leave_core(t);
-        self.armed.remove(t);
+        // There are at most 256 threads.
+        let _ = self.tables.threads().len();
+        self.armed.disarm_wait(t);
     }
 
     // The thread ends, which is shown.

@@ -1,4 +1,4 @@
-ghost use Rattle.std.specs.Prelude.{◌≡◌, ◌+◌, ◌<◌, true, Some, IfSome, length};
+ghost use Rattle.std.specs.Prelude.{◌≡◌, ◌+◌, ◌<◌, ◌≤◌, true, Some, IfSome, length};
 ghost use Rattle.rt_plain.specs.kernel.State.{find_thread};
 ghost use Rattle.rt_plain.specs.kernel.Sound.{is_levelled_call};
 ghost use Rattle.rt_plain.specs.kernel.ThreadCalls.{delay, yield as yield_call, startup, suspend as suspend_call, resume, kill, set_prio, sched_lock, sched_unlock, may_suspend};
@@ -7,6 +7,7 @@ ghost use Rattle.rt_kernel.specs.Built.{subject_of};
 ghost use Rattle.rt_kernel.specs.Caller.{plain_by, plain_attempt, IsThere};
 ghost use Rattle.rt_kernel.specs.Does.{Does};
 ghost use Rattle.rt_kernel.specs.HasRoom.{HasRoom};
+ghost use Rattle.rt_kernel.specs.MayWait.{IsFree, MayMake};
 ghost use Rattle.rt_kernel.specs.NewBase.{changed_base, moved_by, moved_outcome};
 ghost use Rattle.rt_kernel.specs.View.{state_of};
 
@@ -28,6 +29,7 @@ impl State {
     ) -> Answer
         requires subject { subject_of call.now ≡ Some OnThreads }
         requires level { is_levelled_call self.old.tables.levels call.now ≡ true }
+        requires may { MayMake self.old.armed by call.now }
         requires there { IsThere by self.old.tables }
         requires room { HasRoom self.old out.old (1 + length self.old.tables.threads) }
         ensures { Does self.old self.new out.old out.new result (1 + length self.old.tables.threads) (moved_outcome board.now call.now (state_of self.old) (plain_by (state_of self.old) by) (plain_attempt attempt)) }
@@ -57,6 +59,9 @@ impl State {
 
     // A delay of so many ticks.
     fn delay(&mut self, by: Caller, ticks: u32, out: &mut Lines) -> Answer
+        requires free { IsFree self.old.armed by }
+        requires some { 0 < ticks }
+        requires near { ticks ≤ 2147483647 }
         requires there { IsThere by self.old.tables }
         requires room { HasRoom self.old out.old 0 }
         ensures { Does self.old self.new out.old out.new result 0 (delay ticks (state_of self.old) (plain_by (state_of self.old) by)) }
@@ -64,7 +69,7 @@ impl State {
         let Caller::Thread(t, core) = by else {
             return Answer::Code(Code::Error);
         };
-        let due = self.moment + ticks as u64;
+        let due = self.armed.moment() + ticks as u64;
         self.try_wait(t, core, Call::Delay(ticks), Some(due))
     }
 

@@ -1,9 +1,9 @@
-ghost use Rattle.std.specs.Prelude.{◌≡◌, ◌+◌, ◌<◌, ◌≤◌, ◌^◌, ◌-◌, ◌++◌, length, false, Some, IfSome};
+ghost use Rattle.std.specs.Prelude.{◌≡◌, ◌+◌, ◌<◌, ◌≤◌, ◌^◌, ◌-◌, ◌++◌, All, length, false, Some, IfSome};
 ghost use Rattle.std.specs.Option.{option_map};
-ghost use Rattle.rt_plain.specs.kernel.State.{OfThread};
 ghost use Rattle.rt_plain.specs.kernel.Due.{due, timeout_effect};
 ghost use Rattle.rt_plain.specs.kernel.Ticks.{next_tick_state};
-ghost use Rattle.rt_kernel.specs.Due.{first_alarm, taken};
+ghost use Rattle.kernel_timers.specs.Alarmed.{alarm_of, first_alarm, names_of};
+ghost use Rattle.rt_kernel.specs.Due.{taken};
 ghost use Rattle.rt_kernel.specs.Does.{Acts};
 ghost use Rattle.rt_kernel.specs.Limits.{limits_of};
 ghost use Rattle.rt_plain.specs.kernel.Sound.{is_active};
@@ -11,33 +11,34 @@ ghost use Rattle.kernel_tables.specs.Threads.{row_at};
 ghost use Rattle.rt_kernel.specs.View.{state_of};
 
 use crate::state::State;
-use rt_base::ThreadNo;
+use rt_base::{Steps, ThreadNo, TimerNo};
 use rt_plain::{Line, Lines};
+use std::sync::ledger::Ledger;
 
 impl State {
     // The moment grows by one tick, and the slice of the running thread falls.
     pub fn begin_tick(&mut self)
-        requires moment { self.old.moment < 1099511627775 }
+        requires moment { self.old.armed.moment < 1099511627775 }
+        requires ahead { All (λ row. self.old.armed.moment < row.due) self.old.armed.rows }
         requires running { IfSome self.old.running (λ r. r < length self.old.tables.threads) }
         ensures state { state_of self.new ≡ next_tick_state (state_of self.old) }
         ensures limits { limits_of self.new.tables ≡ limits_of self.old.tables }
     {
-        self.moment += 1;
+        self.armed.advance();
         if let Some(t) = self.running {
             self.tables.fall(t);
         }
     }
 
     // Takes the row that fires next at this moment, if one is due.
-    #[tactic(auto, using(crate::proofs::DueLemmas::first_due_is))]
-    pub fn take_due(&mut self) -> Option<ThreadNo>
-        ensures first { first_alarm (due (state_of self.old)) ≡ option_map OfThread result }
-        ensures state { state_of self.new ≡ taken (state_of self.old) (option_map OfThread result) }
+    pub fn take_due<L: Ledger>(&mut self, steps: &mut Steps<L>) -> Option<TimerNo>
+        ensures first { first_alarm (due (state_of self.old)) ≡ option_map (alarm_of (names_of self.old.armed.timers)) result }
+        ensures there { IfSome result (λ no. no < 256 + length self.old.armed.timers) }
+        ensures state { state_of self.new ≡ taken (state_of self.old) (option_map (alarm_of (names_of self.old.armed.timers)) result) }
         ensures limits { limits_of self.new.tables ≡ limits_of self.old.tables }
+        ensures count { steps.new ≡ steps.old + 1 }
     {
-        let t = self.armed.first_due(self.moment)?;
-        self.armed.remove(t);
-        Some(t)
+        self.armed.take_due(steps)
     }
 
     // The row of a thread fires: the thread leaves its wait.

@@ -1,4 +1,4 @@
-ghost use Rattle.std.specs.Prelude.{◌≡◌, ◌+◌, ◌<◌, ◌≤◌, ◌^◌, ◌++◌, [], true, false, length};
+ghost use Rattle.std.specs.Prelude.{◌≡◌, ◌+◌, ◌<◌, ◌≤◌, ◌^◌, ◌++◌, [], All, true, false, length};
 ghost use Rattle.std.specs.List.{AllByRecursion};
 ghost use Rattle.rt_plain.specs.kernel.State.{InCall, is_among};
 ghost use Rattle.rt_plain.specs.kernel.Outcome.{First, may_not_wait, wait_outcome, wait_or_refusal};
@@ -6,6 +6,8 @@ ghost use Rattle.rt_plain.specs.kernel.Effects.{each_effect};
 ghost use Rattle.rt_kernel.specs.Answer.{plain_answer};
 ghost use Rattle.rt_kernel.specs.Caller.{plain_by, IsThere};
 ghost use Rattle.rt_kernel.specs.Limits.{limits_of};
+ghost use Rattle.rt_kernel.specs.MayWait.{IsFree, MayWait};
+ghost use Rattle.rt_plain.specs.kernel.Sound.{is_timeout};
 ghost use Rattle.kernel_tables.specs.Tabled.{knows};
 ghost use Rattle.rt_kernel.specs.View.{state_of};
 ghost use Rattle.rt_kernel.specs.Wake.{follow_effect};
@@ -30,7 +32,8 @@ impl State {
     pub fn try_wait(&mut self, t: ThreadNo, core: CoreNo, call: Call, due: Option<u64>) -> Answer
         requires there { t < length self.old.tables.threads }
         requires unready { is_among self.old.tables.ready t ≡ false }
-        requires armed { length self.old.armed ≤ 256 }
+        requires may { MayWait self.old.armed t due }
+        requires latest { All (λ row. row.number < self.old.numbers) self.old.armed.rows }
         requires number { self.old.numbers + 2 < 2 ^ 64 }
         requires known { knows self.old.tables call ≡ true }
         ensures state { state_of self.new ≡ (wait_outcome (state_of self.old) t core (InCall call) due).effect.state }
@@ -49,8 +52,10 @@ impl State {
     // A call that can't be done now: it is refused where a timer makes it or its timeout is 0, and else waits.
     pub fn wait_for(&mut self, by: Caller, call: Call, timeout: Option<u32>) -> Answer
         requires there { IsThere by self.old.tables }
-        requires armed { length self.old.armed ≤ 256 }
-        requires moment { self.old.moment ≤ 1099511627775 }
+        requires free { IsFree self.old.armed by }
+        requires span { is_timeout timeout ≡ true }
+        requires latest { All (λ row. row.number < self.old.numbers) self.old.armed.rows }
+        requires moment { self.old.armed.moment ≤ 1099511627775 }
         requires number { self.old.numbers + 2 < 2 ^ 64 }
         requires known { knows self.old.tables call ≡ true }
         ensures state { state_of self.new ≡ (wait_or_refusal (state_of self.old) (plain_by (state_of self.old) by) First call timeout Code.Timeout).effect.state }
@@ -66,7 +71,7 @@ impl State {
         if let Some(0) = timeout {
             return Answer::Code(Code::Timeout);
         }
-        let due = timeout.map(|ticks| self.moment + ticks as u64);
+        let due = timeout.map(|ticks| self.armed.moment() + ticks as u64);
         self.try_wait(t, core, call, due)
     }
 

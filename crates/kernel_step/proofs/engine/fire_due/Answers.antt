@@ -4,7 +4,7 @@ use Rattle.kernel_step.proofs.engine.fire_due.Given.{Over}
 use Rattle.kernel_step.proofs.engine.fire_due.Goals as goal
 
 pub loop-no-init : goal.loop-no-init
-loop-no-init g c = (firing-begun _ _ _ c.requires.lines c.requires.awake, refl)
+loop-no-init g c = (firing-begun _ _ _ c.requires.lines c.requires.awake, refl, omega arith)
 
 pub fire-requires-clause-lines : goal.fire-requires-clause-lines
 fire-requires-clause-lines g c = omega (arith, c.in-Some.ensures.fewer, c.loop-no.invariant.0.fits, c.loop-no.invariant.1)
@@ -15,7 +15,7 @@ loop-no-smaller g c = omega (arith, c.in-Some.ensures.fewer, c.fire.ensures.due)
 pub loop-no-preserved : goal.loop-no-preserved
 loop-no-preserved g c =
     let took = c.in-Some.ensures in
-    (firing-more _ _ _ _ _ _ _ _ _ c.loop-no.invariant.0 took.first took.board took.state took.fewer c.fire.ensures.board c.fire.ensures.state c.fire.ensures.lines c.fire.ensures.due c.fire.ensures.few c.fire.ensures.numbers, c.fire.ensures.out_room ∙ c.loop-no.invariant.1)
+    (firing-more _ _ _ _ _ _ _ _ _ c.loop-no.invariant.0 took.first took.board took.state took.fewer c.fire.ensures.board c.fire.ensures.state c.fire.ensures.lines c.fire.ensures.due c.fire.ensures.few c.fire.ensures.numbers, c.fire.ensures.out_room ∙ c.loop-no.invariant.1, omega (arith, c.loop-no.invariant.2, took.count, c.fire.ensures.count, took.fewer, c.fire.ensures.due))
 
 -- behind the last row
 done : (g : Over) (c : goal.In_default g) → Done c.args.kernel.now c.take_due.new.self c.args.out.now.items c.loop-no.out.items
@@ -38,3 +38,6 @@ returns-clause-awake g c = c.loop-no.invariant.0.awake
 
 pub returns-clause-numbers : goal.returns-clause-numbers
 returns-clause-numbers g c = (done g c).3
+
+pub returns-clause-count : goal.returns-clause-count
+returns-clause-count g c = omega (arith, c.loop-no.invariant.2, c.in_default.ensures.count)

@@ -2,14 +2,13 @@ use Rattle.std.proofs.Common.{◌≡◌, ◌≤◌, ◌<◌, length, arith, Opti
 use Rattle.rt_plain.specs.kernel.State.{State, thread_at}
 use Rattle.rt_plain.specs.PlainBoard.{PlainBoard}
 use Rattle.rt_plain.specs.runs.Runs.{thread_count}
-use Rattle.rt_plain.proofs.kernel.TickCosts.{armed-few}
 use Rattle.rt_kernel.specs.Built.{IsBuilt}
 use Rattle.rt_kernel.specs.IsKernel.{frame_of}
 use Rattle.kernel_tables.specs.Tabled.{Tabled}
 use Rattle.rt_kernel.specs.Switched.{IsOnCore}
 use Rattle.rt_kernel.specs.View.{state_of}
 use Rattle.rt_kernel.proofs.BuiltLemmas.{script-short}
-use Rattle.rt_kernel.proofs.KeptLemmas.{on-core, ready-once, running-there}
+use Rattle.rt_kernel.proofs.KeptLemmas.{on-core, ready-once, running-there, running-free, rows-latest, no-timers}
 use Rattle.rt_kernel.proofs.kernel.know_state.Goals as goal
 
 -- there are 256 threads at most
@@ -22,11 +21,14 @@ returns-clause-count c =
     let none : thread_count b ≡ length b.threads = rw (c.requires.built.shell, c.requires.built.soft) (omega arith) in
     omega (arith, c.requires.kept.count, none)
 
-pub returns-clause-armed : goal.returns-clause-armed
-returns-clause-armed c =
-    let b = c.args.board.now in
-    let s : State = state_of c.args.state.now in
-    omega (arith, armed-few (frame_of b s) s c.requires.kept, counted b (length s.threads) c.requires.built c.requires.kept.count)
+pub returns-clause-latest : goal.returns-clause-latest
+returns-clause-latest c = rows-latest (frame_of c.args.board.now (state_of c.args.state.now)) (state_of c.args.state.now) c.requires.kept
+
+pub returns-clause-timers : goal.returns-clause-timers
+returns-clause-timers c = no-timers (frame_of c.args.board.now (state_of c.args.state.now)) (state_of c.args.state.now) c.requires.kept c.requires.built.timers
+
+pub returns-clause-free : goal.returns-clause-free
+returns-clause-free c r is = running-free (frame_of c.args.board.now (state_of c.args.state.now)) (state_of c.args.state.now) 0 r c.requires.kept is
 
 pub returns-clause-moment : goal.returns-clause-moment
 returns-clause-moment c = c.requires.kept.live c.requires.built.proper.until refl

@@ -7,8 +7,11 @@ use Rattle.rt_kernel.specs.View.{state_of}
 use Rattle.rt_plain.specs.kernel.Due.{due}
 use Rattle.rt_kernel.proofs.NameLemmas.{order-kept, begun-names}
 use Rattle.rt_kernel.proofs.Quiet.{KeepsNames}
-use Rattle.rt_kernel.proofs.KeptLemmas.{begun-kept}
+use Rattle.rt_kernel.proofs.KeptLemmas.{begun-kept, rows-ahead}
 use Rattle.rt_kernel.proofs.kernel.Kernel.begin_tick.Goals as goal
+
+pub begin_tick-requires-clause-ahead : goal.begin_tick-requires-clause-ahead
+begin_tick-requires-clause-ahead c = rows-ahead c.self.inside.board (state_of c.self.inside.state) (ap (λ (k : PlainKernel). due k.state) c.self.view_is ∙ c.requires.none) c.self.invariant.kept
 
 pub invariant_of-self : goal.invariant_of-self
 invariant_of-self c = record {

@@ -8,13 +8,14 @@ use Rattle.rt_kernel.specs.PlainKernel.{PlainKernel, DoesNext, MayCall}
 use Rattle.rt_kernel.specs.View.{state_of}
 use Rattle.rt_plain.specs.kernel.Statements.{statement_effect}
 use Rattle.rt_kernel.specs.declared.caller.Caller.{Caller}
+use Rattle.rt_plain.specs.kernel.Sound.{is_timed}
 use Rattle.rt_kernel.specs.Built.{is_built_call, is_built_statement}
 use Rattle.rt_kernel.proofs.NameLemmas.{order-kept}
 use Rattle.rt_kernel.proofs.Quiet.{KeepsNames}
 use Rattle.rt_kernel.proofs.NextCallLemmas.{followed_call}
 use Rattle.rt_plain.specs.kernel.Sound.{is_levelled, is_levelled_call}
 use Rattle.rt_kernel.specs.Limits.{ObjectLimits}
-use Rattle.rt_kernel.proofs.BuiltLemmas.{all-built, all-levelled}
+use Rattle.rt_kernel.proofs.BuiltLemmas.{all-built, all-levelled, all-timed}
 use Rattle.rt_kernel.proofs.KeptLemmas.{next-kept, on-core}
 use Rattle.rt_kernel.proofs.StatementLemmas.{call_is}
 use Rattle.rt_kernel.proofs.kernel.Kernel.call.Given.{Over}
@@ -40,6 +41,11 @@ call-requires-clause-level g c =
     let next : DoesNext (record { board = c.self.inside.board; state = state_of c.self.inside.state }) c.in-Thread.t c.in-Thread.core (Stmt.Do c.args.call.now) = subst (λ (k : PlainKernel). DoesNext k c.in-Thread.t c.in-Thread.core (Stmt.Do c.args.call.now)) (sym c.self.view_is) (subst (λ (by : Caller). MayCall c.args.self.now by c.args.call.now) c.in-Thread.is c.requires.by) in
     subst (λ n. is_levelled_call n c.args.call.now ≡ true) (sym (ap (λ (l : ObjectLimits). l.levels) c.self.invariant.limits))
     (subst (λ (st : Stmt). is_levelled c.self.inside.board.levels st ≡ true) next.next (all-levelled c.self.inside.board (thread_at (state_of c.self.inside.state) c.in-Thread.t).name (thread_at (state_of c.self.inside.state) c.in-Thread.t).next c.self.invariant.built))
+
+pub call-requires-clause-timed : goal.call-requires-clause-timed
+call-requires-clause-timed g c =
+    let next : DoesNext (record { board = c.self.inside.board; state = state_of c.self.inside.state }) c.in-Thread.t c.in-Thread.core (Stmt.Do c.args.call.now) = subst (λ (k : PlainKernel). DoesNext k c.in-Thread.t c.in-Thread.core (Stmt.Do c.args.call.now)) (sym c.self.view_is) (subst (λ (by : Caller). MayCall c.args.self.now by c.args.call.now) c.in-Thread.is c.requires.by) in
+    subst (λ (st : Stmt). is_timed st ≡ true) next.next (all-timed c.self.inside.board (thread_at (state_of c.self.inside.state) c.in-Thread.t).name (thread_at (state_of c.self.inside.state) c.in-Thread.t).next c.self.invariant.built.proper)
 
 -- the statement of the thread that makes the call
 makes : (g : Over) (c : goal.After-call g) → DoesNext (record { board = c.self.inside.board; state = state_of c.self.inside.state }) c.in-Thread.t c.in-Thread.core (Stmt.Do c.args.call.now)
