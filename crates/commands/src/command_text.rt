@@ -82,7 +82,9 @@ fn trace_board(alloc: Global, bytes: &[u8]) -> Result<List<u8>, Refusal>
     ensures cause { IfErr result (IsNoRun bytes.now) }
 {
     let machine = run_board(alloc, bytes)?;
-    match trace_of(alloc, &machine) {
+    let text = trace_of(alloc, &machine);
+    machine.let_go();
+    match text {
         Ok(text) => Ok(text),
         Err(AllocError) => Err(Refusal::Memory),
     }
@@ -102,7 +104,9 @@ fn print_board(alloc: Global, bytes: &[u8]) -> Result<List<u8>, Refusal>
     ensures cause { IfErr result (IsNoRun bytes.now) }
 {
     let machine = run_board(alloc, bytes)?;
-    match console_of(alloc, &machine) {
+    let text = console_of(alloc, &machine);
+    machine.let_go();
+    match text {
         Ok(text) => Ok(text),
         Err(AllocError) => Err(Refusal::Memory),
     }

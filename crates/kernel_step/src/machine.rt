@@ -206,6 +206,9 @@ impl Machine {
         did
     }
 
+    /// Lets the machine go. A function that ends with this call has none of the machine's parts in its proof.
+    pub fn let_go(self) {}
+
     /// The board.
     pub fn board(&self) -> &Board
         ensures { result.now ≡ self.now.board }
