@@ -5,10 +5,10 @@ ghost use Rattle.commands.specs.Command.{command_of, named_file};
 ghost use Rattle.commands.specs.Boards.{IsRefused, IsUnbuiltRun, Stops, HasText};
 ghost use Rattle.commands.specs.Asked.{IfAsked, IsMissing, AsksFor, AsksForNone, HasWritten, HasBegun, HasCause, TellsEnding};
 
+use crate::args::{command_of, file_of, named_file};
+use crate::command_text::{Refusal, text_of};
 use crate::ending::Ending;
 use crate::reading::{ReadFault, read_file};
-use crate::command_text::{Refusal, text_of};
-use crate::args::{command_of, file_of, named_file};
 use crate::writing::put_all;
 use rt_edge::{Failed, Files, Sink};
 use rt_plain::laws::{texts_are_one_board, texts_without_a_bad_line_are_boards};

@@ -1,7 +1,11 @@
-use Rattle.std.proofs.Common.{Err, Result, ◌≡◌, ◌∙◌, ℕ, Bool, true, false, refl, sym, subst}
-use Rattle.rt_plain.specs.runs.Runs.{is_over}
-use Rattle.core_runner.specs.Limits.{MeetsLimit}
+use Rattle.std.proofs.Common.{Err, IsSome, List, Result, ◌≡◌, ◌∙◌, ℕ, Bool, true, false, refl, sym, subst}
+use Rattle.rt_plain.specs.PlainBoard.{PlainBoard}
+use Rattle.rt_plain.specs.runs.Ends.{run_of}
+use Rattle.rt_plain.specs.runs.Runs.{Course, is_over}
+use Rattle.kernel_step.specs.Built.{is_built}
+use Rattle.core_runner.specs.Limits.{HasCompleted, MeetsLimit}
 use Rattle.core_runner.specs.declared.fault.RunFault.{RunFault}
+use Rattle.commands.specs.Boards.{IsBoardFile, HasRun}
 use Rattle.commands.proofs.command_text.run_board.Goals as goal
 
 -- what isn't false is true
@@ -25,3 +29,12 @@ returns-in-Err-Limit-clause-cause c = record {
   };
   limited = subst (MeetsLimit (is_over c.in_ok-board.board) c.in_ok-board.board) c.in-Err-Limit.field-0-is c.in-Err-Limit.ensures.limit;
 }
+
+-- the run of a board that was read, told of the machine's board
+has_run : (bytes : List ℕ) (b seen : PlainBoard) (c : Course) → seen ≡ b → IsBoardFile bytes b → is_built b ≡ true → c ≡ run_of b → IsSome c.halt → HasCompleted (is_over b) b c → HasRun bytes seen c
+has_run bytes b seen c same file built run halted complete = subst (λ (d : PlainBoard). HasRun bytes d c) (sym same) (record { file = record { file = file; built = built }; run = run; halted = halted; complete = complete })
+
+pub returns-in-Ok-clause-run : goal.returns-in-Ok-clause-run
+returns-in-Ok-clause-run c =
+    let h = c.in-Ok.ensures in
+    has_run c.args.bytes.now c.in_ok-board.board c.in-Ok.machine.board c.in-Ok.machine.course h.board c.in_ok-board.ensures.board h.built h.run h.halted h.complete
