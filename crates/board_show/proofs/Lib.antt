@@ -1,3 +1,4 @@
 pub mod Joins
 pub mod BoardLemmas
 pub mod Spelled
+pub mod DrawLemmas

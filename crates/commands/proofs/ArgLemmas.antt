@@ -6,7 +6,7 @@ use Rattle.std.specs.Str.{bytes_eq}
 use Rattle.std.proofs.lemmas.Slice.Eq.{bytes_eq-Decides}
 use Rattle.std.specs.declared.alloc.Global.{Global}
 use Rattle.rt_plain.specs.runs.Commands.{Command, number_within, numbered_command, live_of, sweep_of, cycle_of, two_words, three_words, four_words, command_of as defined_command_of}
-use Rattle.commands.specs.Command.{command_of, one_file, if_built}
+use Rattle.commands.specs.Command.{command_of, one_file, two_files, if_built}
 
 -- no command that is built comes of it
 abbrev IsUnbuilt : Option Command → Type 0
@@ -53,12 +53,19 @@ two name file = by (bytes_eq name (codes "run")) (bytes_eq name (codes "trace"))
   by false false false false false true apart = no-map Command.Soak (λ n. refl) (number_within 0 4294967295 file)
   by false false false false false false apart = refl
 
-three : (name a b : List ℕ) → IsUnbuilt (three_words name a b)
-three name a b = by (bytes_eq name (codes "live")) (bytes_eq name (codes "replay")) where
-  by : (live replay : Bool) → IsUnbuilt (if live then live_of a b else if replay then Some (Command.Replay a b) else None)
-  by true replay = no-live a b
-  by false true = refl
-  by false false = refl
+-- no name is both of these either
+one-of_two : (name : List ℕ) → bytes_eq name (codes "live") ≡ true → bytes_eq name (codes "replay") ≡ true → ⊥
+one-of_two name live replay =
+    let both : bytes_eq (codes "live") (codes "replay") ≡ true = subst (λ word. bytes_eq word (codes "replay") ≡ true) ((bytes_eq-Decides name (codes "live")).0 live) replay in
+    cc
+
+three : (name a b : List ℕ) → two_files name a b ≡ option_and_then if_built (three_words name a b)
+three name a b = by (bytes_eq name (codes "live")) (bytes_eq name (codes "replay")) (one-of_two name) where
+  by : (live replay : Bool) → (live ≡ true → replay ≡ true → ⊥) → (if replay then Some (Command.Replay a b) else None) ≡ option_and_then if_built (if live then live_of a b else if replay then Some (Command.Replay a b) else None)
+  by true true apart = absurd (apart refl refl)
+  by true false apart = no-live a b
+  by false true apart = refl
+  by false false apart = refl
 
 four : (name a b c : List ℕ) → IsUnbuilt (four_words name a b c)
 four name a b c = by (bytes_eq name (codes "sweep")) (bytes_eq name (codes "cycle")) where

@@ -40,6 +40,7 @@ fn take_some<F: Files>(files: &mut F, text: &mut Vec<u8>, room: usize) -> Result
     ensures failed { IsErrOf result ReadFault.Failed → Rose (F.faults files.old) (F.faults files.new) }
     ensures faults { F.faults files.old ≤ F.faults files.new }
     ensures missing_count { F.missing files.old ≤ F.missing files.new }
+    ensures held { F.held files.new ≡ F.held files.old }
     ensures taken { F.taken files.new ≤ F.taken files.old + room }
     ensures counted { IfOk result (λ n. F.taken files.new ≤ F.taken files.old + n) }
 {
@@ -63,6 +64,7 @@ fn read_open<F: Files>(alloc: Global, files: &mut F, most: u32) -> Result<Vec<u8
     ensures failed { IsErrOf result ReadFault.Failed → Rose (F.faults files.old) (F.faults files.new) }
     ensures faults { F.faults files.old ≤ F.faults files.new }
     ensures missing_count { F.missing files.old ≤ F.missing files.new }
+    ensures held { F.held files.new ≡ F.held files.old }
     ensures taken { F.taken files.new ≤ F.taken files.old + (most + 1) }
 {
     let most = most as usize;
@@ -91,6 +93,9 @@ pub(crate) fn read_file<F: Files>(
     ensures absent { IsErrOf result ReadFault.Missing → IsAbsent (F.held files.old) name.now }
     ensures failed { IsErrOf result ReadFault.Failed → Rose (F.faults files.old) (F.faults files.new) }
     ensures found { IsErrOf result ReadFault.Memory → IfHeld (F.held files.old) name.now (λ bytes. Unit {0}) }
+    ensures faults { F.faults files.old ≤ F.faults files.new }
+    ensures missing_count { F.missing files.old ≤ F.missing files.new }
+    ensures held { F.held files.new ≡ F.held files.old }
     ensures taken { F.taken files.new ≤ F.taken files.old + (most + 1) }
 {
     match files.open(name) {

@@ -4,3 +4,6 @@ pub mod PlaceLemmas
 pub mod TurnLemmas
 pub mod SleptLemmas
 pub mod RunLemmas
+pub mod PartLemmas
+pub mod ReaderLemmas
+pub mod ReplayLemmas

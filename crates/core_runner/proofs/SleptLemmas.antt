@@ -20,11 +20,11 @@ use Rattle.core_runner.proofs.TurnLemmas.{after-live}
 
 -- ---- the last entry
 
-at-end : (before : List Entry) (e : Entry) → slice_get (before ++ e ∷ []) (length before) ≡ Some e
+pub at-end : (before : List Entry) (e : Entry) → slice_get (before ++ e ∷ []) (length before) ≡ Some e
 at-end [] e = refl
 at-end (f ∷ before) e = at-end before e
 
-take-end : (before : List Entry) (e : Entry) → take (length before) (before ++ e ∷ []) ≡ before
+pub take-end : (before : List Entry) (e : Entry) → take (length before) (before ++ e ∷ []) ≡ before
 take-end [] e = refl
 take-end (f ∷ before) e = ap (λ (es : List Entry). f ∷ es) (take-end before e)
 

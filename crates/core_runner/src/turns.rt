@@ -1,6 +1,6 @@
-ghost use Rattle.std.specs.Prelude.{◌≡◌, ◌<◌, ◌≤◌, ◌+◌, ◌*◌, ◌^◌, None, OnOk, length};
+ghost use Rattle.std.specs.Prelude.{◌≡◌, ◌<◌, ◌≤◌, ◌+◌, ◌*◌, ◌^◌, [], None, OnOk, false, length};
 ghost use Rattle.rt_plain.specs.kernel.Sound.{IsProper};
-ghost use Rattle.rt_plain.specs.runs.Runs.{opened};
+ghost use Rattle.rt_plain.specs.runs.Runs.{is_over, opened};
 ghost use Rattle.rt_plain.specs.runs.Schedules.{IsDriveable, is_stopped, listed_of, most_turns, moved, scheduled_course};
 ghost use Rattle.core_runner.specs.Places.{stands};
 ghost use Rattle.core_runner.specs.Limits.{over_by};
@@ -26,6 +26,8 @@ pub(crate) fn know_board(board: &Board)
     ensures driveable { IsDriveable board.now }
     ensures proper { IsProper board.now }
     ensures cores { board.now.cores ≤ 8 }
+    ensures some_core { 1 ≤ board.now.cores }
+    ensures begins { is_over board.now [] ≡ false }
 {
     valid_boards_can_be_run();
     board.is_valid();

@@ -1,10 +1,12 @@
 -- A journal kept as headers and one list of lines: how it grows, and how it is read.
-use Rattle.std.proofs.Common.{◌≡◌, ℕ, zero, suc, ◌+◌, ◌<◌, ◌≤◌, List, [], ◌∷◌, ◌++◌, Some, length, take, drop, get_or, refl, sym, ap, subst, arith, ◌∙◌}
+use Rattle.std.proofs.Common.{◌≡◌, ℕ, zero, suc, ◌+◌, ◌<◌, ◌≤◌, List, [], ◌∷◌, ◌++◌, Some, length, take, drop, get_or, Result, Ok, Err, OnOk, refl, sym, ap, subst, arith, ◌∙◌}
 use Rattle.std.specs.Prelude.{slice_get, flat_map, All}
 use Rattle.std.specs.List.{AllByRecursion}
 use Rattle.std.proofs.lemmas.List.{length-drop, take-append-le, drop-append-le, take-append-drop, take-take, drop-take, drop-drop}
 use Rattle.std.proofs.lemmas.List.Elements.{recursion_from_All, All-from_recursion}
+use Rattle.std.proofs.lemmas.List.Concat.{flat_map-cons}
 use Rattle.std.proofs.lemmas.List.Sums.{sum_by-cons, sum_by-take-drop}
+use Rattle.rt_base.specs.declared.codes.Event.{Event}
 use Rattle.std.proofs.lemmas.Grind.{common_steps, flat_map-append}
 use Rattle.rt_plain.specs.declared.line.Line.{Line}
 use Rattle.rt_plain.specs.declared.entry.Entry.{Entry}
@@ -166,3 +168,71 @@ entries-behind (suc at) (x ∷ headers) lines =
     ap (λ (n : ℕ). entries_of (drop at headers) (drop n lines)) sum
     ∙ ap (entries_of (drop at headers)) (sym (drop-drop m x.count lines))
     ∙ entries-behind at headers (drop x.count lines)
+
+-- ---- the lines of one entry
+
+take-own : {X : Type 0} (xs ys : List X) → take (length xs) (xs ++ ys) ≡ xs
+take-own [] ys = refl
+take-own {X} (x ∷ xs) ys = ap (λ (zs : List X). x ∷ zs) (take-own xs ys)
+
+drop-own : {X : Type 0} (xs ys : List X) (n : ℕ) → drop (length xs + n) (xs ++ ys) ≡ drop n ys
+drop-own [] ys n = let same : 0 + n ≡ n = omega arith in ap (λ (k : ℕ). drop k ys) same
+drop-own (x ∷ xs) ys n = let more : suc (length xs) + n ≡ suc (length xs + n) = omega arith in ap (λ (k : ℕ). drop k (x ∷ xs ++ ys)) more ∙ drop-own xs ys n
+
+some-is : {X : Type 0} (x y : X) → Some x ≡ Some y → x ≡ y
+some-is x y is = cc
+
+lines-cons : (f : Entry) (journal : List Entry) → lines_of (f ∷ journal) ≡ f.lines ++ lines_of journal
+lines-cons f journal = flat_map-cons (λ (x : Entry). x.lines) f journal
+
+own-lines : (journal : List Entry) (place : ℕ) (e : Entry) → slice_get journal place ≡ Some e → take (length e.lines) (drop (line_count (take place journal)) (lines_of journal)) ≡ e.lines
+own-lines [] place e is = absurd cc
+own-lines (f ∷ journal) zero e is =
+    let same : f ≡ e = some-is f e is in
+    ap (λ (ls : List Line). take (length e.lines) ls) (lines-cons f journal) ∙ ap (λ (x : Entry). take (length e.lines) (x.lines ++ lines_of journal)) same ∙ take-own e.lines (lines_of journal)
+own-lines (f ∷ journal) (suc place) e is =
+    ap (λ (ls : List Line). take (length e.lines) (drop (line_count (f ∷ take place journal)) ls)) (lines-cons f journal)
+    ∙ ap (λ (n : ℕ). take (length e.lines) (drop n (f.lines ++ lines_of journal))) (sum_by-cons (λ (x : Entry). length x.lines) f (take place journal))
+    ∙ ap (λ (ls : List Line). take (length e.lines) ls) (drop-own f.lines (lines_of journal) (line_count (take place journal)))
+    ∙ own-lines journal place e is
+
+lines-fit : (journal : List Entry) (place : ℕ) (e : Entry) → slice_get journal place ≡ Some e → line_count (take place journal) + length e.lines ≤ line_count journal
+lines-fit [] place e is = absurd cc
+lines-fit (f ∷ journal) zero e is =
+    let same : length f.lines ≡ length e.lines = ap (λ (x : Entry). length x.lines) (some-is f e is) in
+    omega (arith, same, sum_by-cons (λ (x : Entry). length x.lines) f journal)
+lines-fit (f ∷ journal) (suc place) e is =
+    omega (arith, lines-fit journal place e is, sum_by-cons (λ (x : Entry). length x.lines) f journal, sum_by-cons (λ (x : Entry). length x.lines) f (take place journal))
+
+pub entry-fits : (journal : List Entry) (place : ℕ) (event : Event) (tick first count : ℕ) → IsEntryAt journal place event tick first count → first + count ≤ line_count journal
+entry-fits journal place event tick first count there = omega (arith, lines-fit journal place there.entry there.there, there.first_is, there.count_is)
+
+pub entry-is : (journal : List Entry) (place : ℕ) (event : Event) (tick first count : ℕ) (lines : List Line) → IsEntryAt journal place event tick first count → lines ≡ take count (drop first (lines_of journal)) → (e : Entry) → slice_get journal place ≡ Some e → record { event = event; tick = tick; lines = lines } ≡ e
+entry-is journal place event tick first count lines there are e is =
+    let same : there.entry ≡ e = some-is there.entry e (sym there.there ∙ is) in
+    let own : lines ≡ there.entry.lines =
+    are ∙ ap (λ (n : ℕ). take n (drop first (lines_of journal))) there.count_is ∙ ap (λ (n : ℕ). take (length there.entry.lines) (drop n (lines_of journal))) there.first_is ∙ own-lines journal place there.entry there.there in
+    ap (λ (x : Event). record { event = x; tick = tick; lines = lines }) there.event_is
+    ∙ ap (λ (n : ℕ). record { event = there.entry.event; tick = n; lines = lines }) there.tick_is
+    ∙ ap (λ (ls : List Line). record { event = there.entry.event; tick = there.entry.tick; lines = ls }) own
+    ∙ same
+
+-- the lines of a header are those of its entry
+pub own-lines_are : (headers : List Header) (lines : List Line) (entries : List Entry) (first count : ℕ) (own : List Line) → entries_of headers lines ≡ entries → lines_in headers ≡ length lines → own ≡ take count (drop first lines) → own ≡ take count (drop first (lines_of entries))
+own-lines_are headers lines entries first count own are total is =
+    is ∙ ap (λ (ls : List Line). take count (drop first ls)) (sym (lines_of-entries_of headers lines total) ∙ ap lines_of are)
+
+-- they are among all lines
+pub own-lines_fit : (headers : List Header) (lines : List Line) (entries : List Entry) (at : ℕ) (event : Event) (tick first count : ℕ) → entries_of headers lines ≡ entries → lines_in headers ≡ length lines → IsEntryAt entries at event tick first count → first + count ≤ length lines
+own-lines_fit headers lines entries at event tick first count are total there =
+    omega (arith, entry-fits entries at event tick first count there, ap line_count are, line_count-entries_of headers lines total)
+
+-- what is so of an answer where more is so
+pub on-ok_more : {E : Type 0} (r : Result (Unit {0}) E) (P Q : Type 0) → (P → Q) → OnOk r P → OnOk r Q
+on-ok_more (Ok x) P Q more h = more h
+on-ok_more (Err e) P Q more h = tt
+
+-- what is so of an answer for the one entry of a place
+pub on-ok_each : {E : Type 0} (r : Result (Unit {0}) E) (P : Type 0) (Q : Entry → Type 0) (entries : List Entry) (at : ℕ) → ((e : Entry) → P → slice_get entries at ≡ Some e → Q e) → OnOk r P → OnOk r ((e : Entry) → slice_get entries at ≡ Some e → Q e)
+on-ok_each (Ok x) P Q entries at more h = λ e there. more e h there
+on-ok_each (Err e) P Q entries at more h = tt

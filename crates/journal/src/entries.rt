@@ -1,13 +1,14 @@
-ghost use Rattle.std.specs.Prelude.{◌≡◌, ◌+◌, ◌<◌, ◌≤◌, ◌++◌, [], ◌∷◌, length, slice_get, Some, OnOk, OnErr};
+ghost use Rattle.std.specs.Prelude.{◌≡◌, ◌+◌, ◌<◌, ◌≤◌, ◌++◌, [], ◌∷◌, length, take, drop, slice_get, Some, OnOk, OnErr};
+ghost use Rattle.rt_plain.specs.declared.entry.Entry.{Entry};
 ghost use Rattle.rt_plain.specs.runs.Runs.{line_count};
-ghost use Rattle.rt_plain.specs.text.Texts.{body_text, console_of};
+ghost use Rattle.rt_plain.specs.text.Texts.{body_text, console_of, entry_text};
 ghost use Rattle.rt_plain.specs.text.TraceRows.{CanBeWritten, StandsIn};
 ghost use Rattle.journal.specs.Ending.{cut_of};
 ghost use Rattle.journal.specs.JournalSeen.{IsEntryAt, lines_of};
 
 use crate::consoles::put_printed;
 use crate::header::Header;
-use crate::traces::put_body;
+use crate::traces::{put_body, put_one};
 use rt_base::{Event, List};
 use rt_plain::shown::know_event;
 use rt_plain::{Cut, Line, Lines};
@@ -49,6 +50,14 @@ impl Model for Journal {
         × (vec_len j.lines ≤ 4294967295)
         × All CanHead j.headers.items
         × All CanShow j.lines.items };
+}
+
+// So many lines from a place on.
+fn lines_from(lines: &[Line], first: usize, count: usize) -> &[Line]
+    requires { first + count ≤ length lines.now }
+    ensures { result.now ≡ take count (drop first lines.now) }
+{
+    &lines[first..first + count]
 }
 
 impl Journal {
@@ -146,6 +155,17 @@ impl Journal {
         ensures { slice_get (lines_of self.now.entries) at ≡ Some result.now }
     {
         &self.lines[at as usize]
+    }
+
+    /// Adds the text of the entry at a place, from 0 on, at the end: its header with its number, and its lines. The one
+    /// refusal is want of memory.
+    pub fn put_entry(&self, at: u32, out: &mut List<u8>) -> Result<(), AllocError>
+        requires { at < length self.now.entries }
+        ensures { OnOk result ((e : Entry) → slice_get self.now.entries at ≡ Some e → out.new ≡ out.old ++ entry_text (at + 1) e) }
+    {
+        let (event, tick, first, count) = self.entry(at);
+        let lines = lines_from(&self.lines, first as usize, count as usize);
+        put_one(out, at as usize + 1, &event, tick, lines)
     }
 
     // Adds the text of the entries at the end, with the `cut` line where it stands.

@@ -1,6 +1,7 @@
 //! What a run leaves behind: its journal, and the texts that are written of it.
 #![tactic(auto)]
 
+mod backward;
 mod consoles;
 mod entries;
 mod header;

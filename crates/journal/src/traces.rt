@@ -1,32 +1,59 @@
-ghost use Rattle.std.specs.Prelude.{◌≡◌, ◌+◌, ◌^◌, ◌≤◌, ◌<◌, ◌++◌, ◌∷◌, length, take, flat_map, decimal, Some, IfOk, OnOk};
+ghost use Rattle.std.specs.Prelude.{◌≡◌, ◌+◌, ◌^◌, ◌≤◌, ◌<◌, ◌++◌, ◌∷◌, [], length, take, flat_map, decimal, Some, IfOk, OnOk};
 ghost use Rattle.rt_plain.specs.text.Words.{halt_text};
-ghost use Rattle.rt_plain.specs.text.Texts.{header, with_newline, cut_text, body_text, end_text, entries_text, trace_text};
+ghost use Rattle.rt_plain.specs.text.Texts.{header, with_newline, cut_text, body_text, end_text, entry_text, entries_text, trace_text};
 ghost use Rattle.rt_plain.specs.text.TraceRows.{StandsIn};
 ghost use Rattle.journal.specs.Headers.{entries_of, lines_in, StandFrom};
 ghost use Rattle.journal.specs.Ending.{cut_of, ending};
+ghost use Rattle.journal.specs.Signs.{event_sign};
 
 use crate::Journal;
+use crate::backward::Backward;
 use crate::header::Header;
 use crate::writing::{put, put_lines, put_number};
 use rt_base::{Event, Halt, List};
 use rt_plain::{Cut, Line};
 use std::alloc::{AllocError, Global};
 
+// Puts the core of a step, or the word for a tick, in front of the digits of the tick.
+fn put_event(line: &mut Backward, event: &Event)
+    requires { length line.old ≤ 24 }
+    ensures text { line.new ≡ event_sign event.now ++ line.old }
+    ensures short { length line.new ≤ 48 }
+{
+    match event {
+        Event::Step(core) => {
+            line.put(b" @");
+            line.put_number(core.0 as u64);
+            line.put(b" c");
+        }
+        Event::Tick => line.put(b" tick "),
+    }
+}
+
 // Adds the header line of the entry with this number.
 fn put_header(out: &mut List<u8>, n: usize, event: &Event, tick: u32) -> Result<(), AllocError>
     ensures { OnOk result (out.new ≡ out.old ++ with_newline (header n event.now tick)) }
 {
-    put_number(out, n as u64)?;
-    match event {
-        Event::Step(core) => {
-            put(out, b" c")?;
-            put_number(out, core.0 as u64)?;
-            put(out, b" @")?;
-        }
-        Event::Tick => put(out, b" tick ")?,
-    }
-    put_number(out, tick as u64)?;
-    put(out, b"\n")
+    let mut line = Backward::new();
+    line.put(b"\n");
+    line.put_number(tick as u64);
+    put_event(&mut line, event);
+    line.put_number(n as u64);
+    put(out, line.as_slice())
+}
+
+// Adds the text of an entry with this number.
+pub(crate) fn put_one(
+    out: &mut List<u8>,
+    number: usize,
+    event: &Event,
+    tick: u32,
+    lines: &[Line],
+) -> Result<(), AllocError>
+    ensures { OnOk result (out.new ≡ out.old ++ entry_text number (record { event = event.now; tick = tick; lines = lines.now })) }
+{
+    put_header(out, number, event, tick)?;
+    put_lines(out, lines)
 }
 
 // Adds the text of the entries of these headers and lines, of which the first has this number.

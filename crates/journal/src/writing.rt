@@ -5,6 +5,7 @@ ghost use Rattle.rt_plain.specs.text.Words.{words};
 ghost use Rattle.rt_plain.specs.text.Texts.{quoted_text, line_text, indented_line};
 ghost use Rattle.journal.specs.Spelled.{spelled};
 
+use crate::backward::Backward;
 use crate::shown::{
     Shown, acted, answered, changed, half, mode, name, number, placed, received, text, woken,
 };
@@ -70,6 +71,12 @@ fn put_shown(out: &mut List<u8>, field: Shown<'_>) -> Result<(), AllocError>
 fn put_spaced(out: &mut List<u8>, field: Shown<'_>) -> Result<(), AllocError>
     ensures { OnOk result (out.new ≡ out.old ++ 32 ∷ spelled field.entry) }
 {
+    if let Shown::Number(n) = field {
+        let mut digits = Backward::new();
+        digits.put_number(n);
+        digits.put(b" ");
+        return put(out, digits.as_slice());
+    }
     put(out, b" ")?;
     put_shown(out, field)
 }

@@ -1,57 +1,74 @@
-ghost use Rattle.std.specs.Prelude.{◌≡◌, ◌+◌, ◌*◌, ◌<◌, ◌≤◌, ◌^◌, ◌-◌, ◌==◌, ◌++◌, [], ℕ, true, false, length, ◌&&◌, Some, None, is_some, IfOk, if◌then◌else◌};
+ghost use Rattle.std.specs.Prelude.{◌≡◌, ◌+◌, ◌*◌, ◌<◌, ◌≤◌, ◌^◌, ◌==◌, ◌++◌, [], All, length, true, Some, None, is_some, IfOk, IfSome, if◌then◌else◌};
 ghost use Rattle.rt_base.specs.declared.codes.Event.TheVariants.{Step, Tick as TickEvent};
-ghost use Rattle.rt_plain.specs.kernel.State.{thread_at, running_on};
+ghost use Rattle.rt_plain.specs.kernel.State.{running_on};
 ghost use Rattle.rt_plain.specs.kernel.Due.{due};
 ghost use Rattle.rt_plain.specs.kernel.Opening.{open_state};
 ghost use Rattle.rt_plain.specs.kernel.Shown.{shown};
-ghost use Rattle.rt_plain.specs.runs.Schedules.{is_sleep};
-ghost use Rattle.rt_plain.specs.kernel.Sleeps.{Made, is_empty};
 ghost use Rattle.rt_plain.specs.kernel.Statements.{statement_effect};
 ghost use Rattle.rt_plain.specs.kernel.Steps.{happens, is_all_idle};
-ghost use Rattle.rt_base.specs.declared.codes.Halt.TheVariants.{Quiet, Until};
-ghost use Rattle.kernel_step.specs.declared.did.Did.TheVariants.{Halted, Same};
-ghost use Rattle.rt_plain.specs.kernel.Ticks.{next_tick_state, alarms_effect};
-ghost use Rattle.rt_plain.specs.runs.Runs.{is_event_of};
+ghost use Rattle.rt_base.specs.declared.codes.Halt.TheVariants.{Until};
+ghost use Rattle.rt_plain.specs.kernel.Ticks.{alarms_effect, deliveries, tick_effect};
+ghost use Rattle.rt_plain.specs.runs.Runs.{is_event_of, room};
 ghost use Rattle.rt_plain.specs.kernel.Sound.{IsProper, IsSized};
-ghost use Rattle.rt_kernel.specs.Switched.{switched};
-ghost use Rattle.rt_kernel.specs.Built.{is_built as is_built_for_kernel};
-ghost use Rattle.kernel_step.specs.Built.{IsBuilt, is_built};
-ghost use Rattle.kernel_step.specs.Did.{Gives};
-ghost use Rattle.kernel_step.specs.Engine.{state_of};
+ghost use Rattle.kernel_step.specs.Built.{IsClocked, is_built};
+ghost use Rattle.kernel_step.specs.Did.{FitsIn, Gives, idle_did};
+ghost use Rattle.kernel_step.specs.Engine.{state_of, IsGoing, IsOnTime};
+ghost use Rattle.kernel_step.specs.Fired.{event_rows, is_brief, row_cost, rows_now, tick_rows};
 
 use crate::Did;
+use kernel_devices::laws::deliveries_go_one_by_one;
+use pm_core::LpClock;
 use rt_base::{CoreNo, Event, Halt, RunMode, Steps, ThreadNo};
 use rt_kernel::{Caller, Kernel};
 use rt_plain::{Board, Lines, Stmt};
 use std::alloc::{AllocError, Global};
 use std::sync::ledger::Ledger;
 
-/// The kernel, and how its last tick has halted it.
+/// The kernel, the low-power clock, and how the kernel's last tick has halted it.
 #[derive(Drop)]
 pub(crate) struct Engine {
     pub(crate) kernel: Kernel,
+    /// It goes with the kernel's moment.
+    pub(crate) clock: LpClock,
     pub(crate) halt: Option<Halt>,
 }
 
 // All rows that are due fire, the one that was armed first before the others. One row is looked up for each that fires,
 // and then the next one, which isn't due.
 fn fire_due<L: Ledger>(kernel: &mut Kernel, out: &mut Lines, steps: &mut Steps<L>)
-    requires lines { length out.old.items + 2 * length (due kernel.old.state) ≤ out.old.room }
-    requires awake { is_sleep out.old.items ≡ false }
+    requires lines { length out.old.items + (2 + length kernel.old.board.threads) * length (due kernel.old.state) ≤ out.old.room }
+    requires number { kernel.old.state.numbers + 2 * length (due kernel.old.state) + 1 < 2 ^ 64 }
     ensures board { kernel.new.board ≡ kernel.old.board }
     ensures state { kernel.new.state ≡ (alarms_effect kernel.old.board kernel.old.state).state }
     ensures lines { out.new.items ≡ out.old.items ++ (alarms_effect kernel.old.board kernel.old.state).lines }
     ensures out_room { out.new.room ≡ out.old.room }
-    ensures awake { is_sleep out.new.items ≡ false }
-    ensures numbers { kernel.new.state.numbers ≡ kernel.old.state.numbers }
-    ensures count { steps.new ≤ steps.old + 1 + length (due kernel.old.state) }
+    ensures moment { kernel.new.state.moment ≡ kernel.old.state.moment }
+    ensures arrivals { kernel.new.state.arrivals ≡ kernel.old.state.arrivals }
+    ensures count { steps.new ≤ steps.old + 1 + rows_now kernel.old.board kernel.old.state * row_cost kernel.old.board }
 {
     while let Some(no) = kernel.take_due(steps) {
         kernel.fire(no, out, steps);
     }
 }
 
-// The next statement of the thread that a core runs.
+// What arrives at this moment is delivered, in board order. One arrival is looked at for each that comes, and then the next
+// one, which comes later.
+fn deliver<L: Ledger>(kernel: &mut Kernel, out: &mut Lines, steps: &mut Steps<L>)
+    requires ahead { All (λ a. kernel.old.state.moment ≤ a.moment) kernel.old.state.arrivals }
+    requires lines { length out.old.items + length (deliveries kernel.old.state).lines + 2 ≤ out.old.room }
+    ensures board { kernel.new.board ≡ kernel.old.board }
+    ensures state { kernel.new.state ≡ (deliveries kernel.old.state).state }
+    ensures lines { out.new.items ≡ out.old.items ++ (deliveries kernel.old.state).lines }
+    ensures out_room { out.new.room ≡ out.old.room }
+    ensures count { steps.new ≡ steps.old }
+{
+    deliveries_go_one_by_one();
+    while let Some(arrival) = kernel.take_arrival() {
+        kernel.arrive(&arrival.device, &arrival.text, out, steps);
+    }
+}
+
+// The thread that a core runs goes on: with the call that it has to make again, or else with its next statement.
 fn go_on<L: Ledger>(
     kernel: &mut Kernel,
     core: CoreNo,
@@ -60,17 +77,23 @@ fn go_on<L: Ledger>(
     steps: &mut Steps<L>,
 )
     requires runs { running_on kernel.old.state core ≡ Some t }
-    requires core { core ≡ 0 }
+    requires core { core < kernel.old.board.cores }
     requires number { kernel.old.state.numbers + 2 < 2 ^ 64 }
     requires empty { out.old.items ≡ [] }
     requires room { length kernel.old.board.threads + 2 ≤ out.old.room }
     ensures board { kernel.new.board ≡ kernel.old.board }
     ensures state { kernel.new.state ≡ (statement_effect kernel.old.board t core kernel.old.state).state }
     ensures lines { out.new.items ≡ (statement_effect kernel.old.board t core kernel.old.state).lines }
-    ensures awake { is_sleep out.new.items ≡ false }
+    ensures moment { kernel.new.state.moment ≡ kernel.old.state.moment }
     ensures out_room { out.new.room ≡ out.old.room }
 {
     kernel.know_kernel();
+    if kernel.retries(t) {
+        if kernel.has_call(t) {
+            kernel.again(core, t, out, steps);
+        }
+        return;
+    }
     match kernel.next_statement(t) {
         Stmt::Do(call) => {
             kernel.call(Caller::Thread(t, core), &call, out, steps);
@@ -79,40 +102,40 @@ fn go_on<L: Ledger>(
     }
 }
 
-// A core without a thread waits, and the machine halts where no thread ever goes on.
-fn at_rest(kernel: &Kernel) -> Did
-    ensures { result ≡ (if is_all_idle kernel.now.state && is_empty kernel.now.state.armed then Halted Quiet else Same) }
-{
-    if kernel.all_idle() && kernel.nothing_armed() {
-        Did::Halted(Halt::Quiet)
-    } else {
-        Did::Same
-    }
-}
-
-// One step of the core: it takes a thread, or its thread goes on, or it waits.
-fn core_step<L: Ledger>(kernel: &mut Kernel, out: &mut Lines, steps: &mut Steps<L>) -> Did
-    requires built { IsBuilt kernel.old.board }
+// One step of a core: it waits for the lock over all cores, or takes a thread, or its thread goes on. None where it has no
+// thread and takes none, and then nothing changes.
+fn thread_step<L: Ledger>(
+    kernel: &mut Kernel,
+    core: CoreNo,
+    out: &mut Lines,
+    steps: &mut Steps<L>,
+) -> Option<Did>
+    requires core { core < kernel.old.board.cores }
     requires empty { out.old.items ≡ [] }
     requires room { length kernel.old.board.threads + 2 ≤ out.old.room }
     requires number { kernel.old.state.numbers + 2 < 2 ^ 64 }
-    ensures gives { Gives (happens kernel.old.board kernel.old.state (Step 0)) result kernel.old.state kernel.new.state out.new.items }
+    ensures gives { IfSome result (λ did. Gives (happens kernel.old.board kernel.old.state (Step core)) did kernel.old.state kernel.new.state out.new.items) }
+    ensures rests { result ≡ None → happens kernel.old.board kernel.old.state (Step core) ≡ idle_did kernel.old.board kernel.old.state core }
+    ensures still { result ≡ None → (kernel.new.state ≡ kernel.old.state) × (out.new.items ≡ []) }
     ensures board { kernel.new.board ≡ kernel.old.board }
-    ensures awake { is_sleep out.new.items ≡ false }
+    ensures moment { kernel.new.state.moment ≡ kernel.old.state.moment }
+    ensures cost { is_all_idle kernel.old.state ≡ true → steps.new ≤ steps.old + 8 }
     ensures out_room { out.new.room ≡ out.old.room }
 {
     kernel.know_kernel();
-    let core = CoreNo(0);
+    if kernel.must_wait(core) {
+        return Some(Did::Same);
+    }
     if kernel.switch(core, out, steps) {
-        return Did::Entry;
+        return Some(Did::Entry);
     }
     match kernel.running(core) {
         Some(t) => {
             kernel.unmark(core);
             go_on(kernel, core, t, out, steps);
-            Did::Entry
+            Some(Did::Entry)
         }
-        None => at_rest(kernel),
+        None => None,
     }
 }
 
@@ -130,54 +153,115 @@ fn halt_at_end(kernel: &Kernel) -> Option<Halt>
 impl Engine {
     /// The kernel as the board opens. The one refusal is want of memory.
     pub(crate) fn open(alloc: Global, board: Board) -> Result<Engine, AllocError>
-        requires { is_built board ≡ true }
+        requires built { is_built board ≡ true }
+        requires clocked { IsClocked board }
         ensures board { IfOk result (λ k. k.kernel.board ≡ board) }
         ensures state { IfOk result (λ k. state_of k ≡ open_state board) }
+        ensures clock { IfOk result IsOnTime }
     {
+        let clock = LpClock::new(board.lp_h, board.lp_q);
         let kernel = Kernel::open(alloc, board)?;
         kernel.know_kernel();
-        Ok(Engine { kernel, halt: None })
+        Ok(Engine {
+            kernel,
+            clock,
+            halt: None,
+        })
     }
 
-    // One step of the core.
-    fn step<L: Ledger>(&mut self, out: &mut Lines, steps: &mut Steps<L>) -> Did
-        requires built { IsBuilt self.old.kernel.board }
-        requires live { self.old.halt ≡ None }
+    // A core that has no thread and takes none waits. The first one follows the sleep rule where no core has one.
+    fn at_rest<L: Ledger>(&mut self, core: CoreNo, out: &mut Lines, steps: &mut Steps<L>) -> Did
+        requires going { IsGoing self.old }
+        requires fits { FitsIn (idle_did self.old.kernel.board self.old.kernel.state core) out.old.room }
         requires empty { out.old.items ≡ [] }
-        requires room { length self.old.kernel.board.threads + 2 ≤ out.old.room }
-        requires number { self.old.kernel.state.numbers + 2 < 2 ^ 64 }
-        ensures gives { Gives (happens self.old.kernel.board (state_of self.old) (Step 0)) result (state_of self.old) (state_of self.new) out.new.items }
+        requires room { room self.old.kernel.board ≤ out.old.room }
+        ensures gives { Gives (idle_did self.old.kernel.board self.old.kernel.state core) result (state_of self.old) (state_of self.new) out.new.items }
         ensures board { self.new.kernel.board ≡ self.old.kernel.board }
-        ensures awake { is_sleep out.new.items ≡ false }
+        ensures clock { IsOnTime self.new }
+        ensures count { steps.new ≤ steps.old + 1 + event_rows self.old.kernel.board self.old.kernel.state (Step core) * row_cost self.old.kernel.board }
+        ensures out_room { out.new.room ≡ out.old.room }
+    {
+        if core.0 == 0 && self.kernel.all_idle() {
+            self.rest(out, steps)
+        } else {
+            Did::Same
+        }
+    }
+
+    // One step of a core.
+    fn step<L: Ledger>(&mut self, core: CoreNo, out: &mut Lines, steps: &mut Steps<L>) -> Did
+        requires going { IsGoing self.old }
+        requires core { core < self.old.kernel.board.cores }
+        requires fits { FitsIn (happens self.old.kernel.board (state_of self.old) (Step core)) out.old.room }
+        requires empty { out.old.items ≡ [] }
+        requires room { room self.old.kernel.board ≤ out.old.room }
+        ensures gives { Gives (happens self.old.kernel.board (state_of self.old) (Step core)) result (state_of self.old) (state_of self.new) out.new.items }
+        ensures board { self.new.kernel.board ≡ self.old.kernel.board }
+        ensures clock { IsOnTime self.new }
+        ensures count { is_all_idle self.old.kernel.state ≡ true → steps.new ≤ steps.old + 9 + event_rows self.old.kernel.board self.old.kernel.state (Step core) * row_cost self.old.kernel.board }
         ensures out_room { out.new.room ≡ out.old.room }
     {
         self.kernel.know_kernel();
-        let did = core_step(&mut self.kernel, out, steps);
-        self.kernel.know_kernel();
-        did
+        match thread_step(&mut self.kernel, core, out, steps) {
+            Some(did) => {
+                self.kernel.know_kernel();
+                did
+            }
+            None => self.at_rest(core, out, steps),
+        }
     }
 
-    // One tick.
-    fn ticks<L: Ledger>(&mut self, out: &mut Lines, steps: &mut Steps<L>)
+    // A tick passes, where no core holds the lock over all cores. Lines may be shown already.
+    pub(crate) fn pass_tick<L: Ledger>(&mut self, out: &mut Lines, steps: &mut Steps<L>)
         requires live { self.old.halt ≡ None }
+        requires clock { IsOnTime self.old }
         requires none { due self.old.kernel.state ≡ [] }
+        requires ahead { All (λ a. self.old.kernel.state.moment < a.moment) self.old.kernel.state.arrivals }
         requires moment { self.old.kernel.state.moment < 1099511627775 }
-        requires empty { out.old.items ≡ [] }
-        requires room { 2 * length self.old.kernel.board.threads ≤ out.old.room }
-        ensures did { happens self.old.kernel.board (state_of self.old) TickEvent ≡ Made (state_of self.new) out.new.items }
+        requires fits { length out.old.items + length (tick_effect self.old.kernel.board self.old.kernel.state).lines + 16 ≤ out.old.room }
+        requires room { length out.old.items + (2 + length self.old.kernel.board.threads) * (length self.old.kernel.board.threads + length self.old.kernel.board.timers) ≤ out.old.room }
+        requires number { self.old.kernel.state.numbers + 2 * (length self.old.kernel.board.threads + length self.old.kernel.board.timers) + 1 < 2 ^ 64 }
+        ensures state { state_of self.new ≡ (tick_effect self.old.kernel.board self.old.kernel.state).state }
+        ensures lines { out.new.items ≡ out.old.items ++ (tick_effect self.old.kernel.board self.old.kernel.state).lines }
+        ensures moment { self.new.kernel.state.moment ≡ self.old.kernel.state.moment + 1 }
         ensures board { self.new.kernel.board ≡ self.old.kernel.board }
-        ensures awake { is_sleep out.new.items ≡ false }
+        ensures clock { IsOnTime self.new }
+        ensures count { steps.new ≤ steps.old + 1 + tick_rows self.old.kernel.board self.old.kernel.state * row_cost self.old.kernel.board }
         ensures out_room { out.new.room ≡ out.old.room }
     {
         self.kernel.know_kernel();
         self.kernel.begin_tick();
+        self.clock.advance(1);
         self.kernel.know_kernel();
         fire_due(&mut self.kernel, out, steps);
+        deliver(&mut self.kernel, out, steps);
+        self.kernel.know_kernel();
+        self.kernel.drain(out);
         self.kernel.know_kernel();
         self.halt = halt_at_end(&self.kernel);
     }
 
-    /// One event: a step of the core, or a tick.
+    // One tick. None passes while a core holds the lock over all cores.
+    fn tick_step<L: Ledger>(&mut self, out: &mut Lines, steps: &mut Steps<L>) -> Did
+        requires going { IsGoing self.old }
+        requires fits { FitsIn (happens self.old.kernel.board (state_of self.old) TickEvent) out.old.room }
+        requires empty { out.old.items ≡ [] }
+        requires room { room self.old.kernel.board ≤ out.old.room }
+        ensures gives { Gives (happens self.old.kernel.board (state_of self.old) TickEvent) result (state_of self.old) (state_of self.new) out.new.items }
+        ensures board { self.new.kernel.board ≡ self.old.kernel.board }
+        ensures clock { IsOnTime self.new }
+        ensures count { steps.new ≤ steps.old + 1 + tick_rows self.old.kernel.board self.old.kernel.state * row_cost self.old.kernel.board }
+        ensures out_room { out.new.room ≡ out.old.room }
+    {
+        self.kernel.know_kernel();
+        if self.kernel.is_nested() {
+            return Did::Same;
+        }
+        self.pass_tick(out, steps);
+        Did::Entry
+    }
+
+    /// One event: a step of a core, or a tick.
     #[tactic(auto, unfolding(crate::specs::Engine::state_of))]
     pub(crate) fn event<L: Ledger>(
         &mut self,
@@ -185,25 +269,21 @@ impl Engine {
         out: &mut Lines,
         steps: &mut Steps<L>,
     ) -> Did
-        requires built { IsBuilt self.old.kernel.board }
-        requires live { self.old.halt ≡ None }
+        requires going { IsGoing self.old }
         requires core { is_event_of self.old.kernel.board event.now ≡ true }
-        requires none { due (state_of self.old) ≡ [] }
-        requires moment { (state_of self.old).moment < 1099511627775 }
-        requires number { (state_of self.old).numbers + 2 < 2 ^ 64 }
+        requires fits { FitsIn (happens self.old.kernel.board (state_of self.old) event.now) out.old.room }
         requires empty { out.old.items ≡ [] }
-        requires room { 2 * length self.old.kernel.board.threads + 2 ≤ out.old.room }
+        requires room { room self.old.kernel.board ≤ out.old.room }
         ensures gives { Gives (happens self.old.kernel.board (state_of self.old) event.now) result (state_of self.old) (state_of self.new) out.new.items }
         ensures board { self.new.kernel.board ≡ self.old.kernel.board }
-        ensures awake { is_sleep out.new.items ≡ false }
+        ensures clock { IsOnTime self.new }
+        ensures count { is_brief (state_of self.old) event.now ≡ true → steps.new ≤ steps.old + 9 + event_rows self.old.kernel.board (state_of self.old) event.now * row_cost self.old.kernel.board }
         ensures out_room { out.new.room ≡ out.old.room }
     {
+        self.kernel.know_kernel();
         match event {
-            Event::Step(_) => self.step(out, steps),
-            Event::Tick => {
-                self.ticks(out, steps);
-                Did::Entry
-            }
+            Event::Step(core) => self.step(*core, out, steps),
+            Event::Tick => self.tick_step(out, steps),
         }
     }
 
@@ -243,8 +323,7 @@ impl Engine {
     pub(crate) fn run_mode(&self) -> RunMode
         ensures { result ≡ (state_of self.now).run_mode }
     {
-        self.kernel.know_kernel();
-        RunMode::Normal
+        self.kernel.run_mode()
     }
 
     /// Whether a core holds the lock over all cores.
@@ -252,17 +331,14 @@ impl Engine {
     pub(crate) fn is_nested(&self) -> bool
         ensures { result ≡ is_some (state_of self.now).nest }
     {
-        self.kernel.know_kernel();
-        false
+        self.kernel.is_nested()
     }
 
-    /// What is so in every engine: the board is valid enough for the laws of the plain kernel, and no core holds the
-    /// lock over all cores.
+    /// What is so in every engine: the board is valid enough for the laws of the plain kernel.
     #[tactic(auto, unfolding(crate::specs::Engine::state_of))]
     pub(crate) fn know_engine(&self)
         ensures proper { IsProper self.now.kernel.board }
         ensures sized { IsSized self.now.kernel.board }
-        ensures nest { (state_of self.now).nest ≡ None }
     {
         self.kernel.know_kernel();
     }

@@ -5,6 +5,7 @@ mod built;
 mod did;
 mod engine;
 mod machine;
+mod resting;
 
 pub use built::is_built;
 pub use did::Did;

@@ -1,25 +1,28 @@
-ghost use Rattle.std.specs.Prelude.{◌≡◌, ◌↔◌, ◌+◌, ◌<◌, ◌≤◌, ◌^◌, ◌-◌, [], IfOk, OnOk, OnErr, IsErrOf, None, List, false, true, length, is_some};
+ghost use Rattle.std.specs.Prelude.{◌≡◌, ◌↔◌, ◌+◌, ◌*◌, ◌<◌, ◌≤◌, ◌^◌, ◌-◌, [], All, IfOk, OnOk, OnErr, IsErrOf, None, List, false, true, length, is_some};
 ghost use Rattle.rt_plain.specs.runs.Runs.{IsReached, opened, after, room, is_event_of, line_count};
 ghost use Rattle.rt_plain.specs.runs.Runs.{is_over};
 ghost use Rattle.rt_base.specs.declared.codes.Event.{Event as Occurrence};
 ghost use Rattle.rt_plain.specs.declared.line.Line.{Line};
 ghost use Rattle.rt_plain.specs.kernel.State.{State};
-ghost use Rattle.rt_plain.specs.kernel.Due.{due};
 ghost use Rattle.rt_plain.specs.kernel.Shown.{shown};
 ghost use Rattle.rt_plain.specs.kernel.Sleeps.{Made};
 ghost use Rattle.rt_plain.specs.kernel.Sound.{IsSound};
 ghost use Rattle.rt_plain.specs.kernel.Steps.{happens};
 ghost use Rattle.kernel_step.specs.Built.{IsBuilt, is_built};
 ghost use Rattle.kernel_step.specs.Did.{did_by};
+ghost use Rattle.kernel_step.specs.Fired.{event_rows, is_brief, row_cost};
 ghost use Rattle.kernel_step.specs.MachineSeen.{limit_of, picked_tick};
 ghost use Rattle.kernel_step.specs.declared.machine.StartFault.TheVariants.{Memory};
 
+use crate::built::know_clock;
 use crate::engine::Engine;
 use crate::{Did, is_built};
 use journal::Journal;
 use rt_base::{Event, Halt, RunMode, Steps};
 use rt_kernel::know_built;
-use rt_plain::laws::{lines_fit_the_room, numbers_stay_small, reached_states_are_sound};
+use rt_plain::laws::{
+    arrivals_are_ahead, lines_fit_the_room, numbers_stay_small, reached_states_are_sound,
+};
 use rt_plain::{Board, Lines};
 use std::alloc::{AllocError, Global};
 use std::marker::Model;
@@ -71,12 +74,21 @@ impl Model for Machine {
 }
 
 // What the test of a built board says.
-#[tactic(auto, using(crate::proofs::BuiltLemmas::built_facts))]
 fn know_board(board: &Board)
     requires { is_built board.now ≡ true }
     ensures { IsBuilt board.now }
 {
     know_built(board);
+    know_clock(board);
+}
+
+// Room for what arrives and is sent in a tick, and for the devices that a sleep suspends.
+fn device_room(board: &Board) -> usize
+    requires { IsBuilt board.now }
+    ensures value { result ≡ 5 * (1 + length board.now.devices) }
+    ensures few { result ≤ 80 }
+{
+    5 * (1 + board.devices.len())
 }
 
 // Room for the lines of any one event.
@@ -86,7 +98,7 @@ fn room_for(board: &Board) -> usize
     ensures value { result ≡ room board.now }
 {
     let threads = board.threads.len();
-    (threads + 1) * (2 * threads + 4) + 305
+    (threads + board.timers.len() + 1) * (2 * threads + 4) + device_room(board) + 300
 }
 
 // The tick that an entry shows: that before a step, and that after a tick.
@@ -121,7 +133,7 @@ impl Machine {
         ensures course { IfOk result (λ m. m.course ≡ opened board) }
     {
         know_board(&board);
-        let lines = Lines::new(alloc, room_for(&board))?;
+        let lines = Lines::new(alloc, room_for(&board) + 16)?;
         let engine = Engine::open(alloc, board)?;
         Ok(Machine {
             engine,
@@ -158,17 +170,19 @@ impl Machine {
         self.journal.reserve(1, room)
     }
 
-    // What the run so far says of the next event: no row is due, the last moment is ahead, numbers are small, and its
-    // lines fit.
+    // What the run so far says of the next event: armed rows, all that is left to arrive and the last moment are ahead, numbers
+    // are small, and its lines fit.
     #[tactic(auto, using(crate::proofs::MachineLemmas::on_way))]
     fn know_on_way(&self)
         requires live { self.now.course.halt ≡ None }
-        ensures none { due self.now.course.state ≡ [] }
-        ensures moment { self.now.course.state.moment < 1099511627775 }
-        ensures number { self.now.course.state.numbers + 2 < 2 ^ 64 }
+        ensures rows { All (λ row. self.now.course.state.moment < row.due) self.now.course.state.armed }
+        ensures ahead { All (λ a. self.now.course.state.moment < a.moment) self.now.course.state.arrivals }
+        ensures early { self.now.course.state.moment < self.now.board.until }
+        ensures number { self.now.course.state.numbers + 1026 < 2 ^ 64 }
         ensures lines { (event : Occurrence) (new : State) (lines : List Line) → happens self.now.board self.now.course.state event ≡ Made new lines → length lines ≤ room self.now.board }
     {
         reached_states_are_sound();
+        arrivals_are_ahead();
         lines_fit_the_room();
         numbers_stay_small();
         self.engine.know_engine();
@@ -179,7 +193,8 @@ impl Machine {
     /// One event, for whose lines there is room: a step of one of the board's cores, or a tick. `Entry` where it
     /// made an entry, which stands at the journal's end with at most `room()` lines; `Same` where it changed
     /// nothing; `Halted` where the machine had halted before, or a step of core 0 found that it has. It takes no
-    /// memory.
+    /// memory. A tick, and a sleep of any length, counts at most 9 reads, and so many for each row that fires in it as a
+    /// board of its threads and mutexes may need.
     pub fn event<L: Ledger>(&mut self, event: Event, steps: &mut Steps<L>) -> Did
         requires room { room self.old.board ≤ self.old.spare }
         requires core { is_event_of self.old.board event ≡ true }
@@ -187,6 +202,7 @@ impl Machine {
         ensures board { self.new.board ≡ self.old.board }
         ensures did { result ≡ did_by self.old.board self.old.course event }
         ensures lines { line_count self.new.course.journal ≤ line_count self.old.course.journal + room self.old.board }
+        ensures count { is_brief self.old.course.state event ≡ true → steps.new ≤ steps.old + 9 + event_rows self.old.board self.old.course.state event * row_cost self.old.board }
     {
         if let Some(halt) = self.halt {
             return Did::Halted(halt);

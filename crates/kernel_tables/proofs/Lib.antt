@@ -11,6 +11,7 @@ pub mod ObjectRowLemmas
 pub mod OpenLemmas
 pub mod QueueLemmas
 pub mod ReadyLemmas
+pub mod RetryLemmas
 pub mod SemLemmas
 pub mod ShownLemmas
 pub mod TableLemmas
@@ -18,3 +19,4 @@ pub mod ThreadLemmas
 pub mod TiedLemmas
 pub mod WaitListLemmas
 pub mod WokenLemmas
+pub mod ForemostLemmas

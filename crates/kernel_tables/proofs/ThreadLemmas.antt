@@ -3,7 +3,7 @@ use Rattle.std.proofs.Common.{◌≡◌, ℕ, zero, suc, [], ◌∷◌, ◌<◌,
 use Rattle.std.proofs.lemmas.List.{get_or-map, map-set, length-map}
 use Rattle.rt_plain.specs.kernel.State.{Thread, no_thread}
 use Rattle.kernel_tables.specs.declared.threads.Thread.{Thread as ThreadRow}
-use Rattle.kernel_tables.specs.Threads.{plain_thread, with_row, row_at, ArePlain}
+use Rattle.kernel_tables.specs.Threads.{plain_thread, with_row, row_at}
 
 -- the plain row at a number
 pub row_is : (rows : List ThreadRow) (t : ℕ) (d : ThreadRow) → t < length rows → row_at (map plain_thread rows) t ≡ plain_thread (slice_index_or rows t d)
@@ -18,9 +18,3 @@ written rows threads i t old new change seen at there is same =
     ∙ ap (λ (all : List Thread). slice_set all i (plain_thread new)) seen
     ∙ ap (λ n. slice_set threads n (plain_thread new)) at
     ∙ ap (slice_set threads t) (same ∙ ap change (ap plain_thread is ∙ sym (row_is rows i old bound) ∙ ap (λ (all : List Thread). row_at all i) seen ∙ ap (row_at threads) at))
-
--- what isn't built yet is so in each row
-pub rows_are_plain : (rows : List ThreadRow) → ArePlain (map plain_thread rows)
-rows_are_plain [] t = record { retry = refl; text = refl }
-rows_are_plain (row ∷ rows) zero = record { retry = refl; text = refl }
-rows_are_plain (row ∷ rows) (suc t) = rows_are_plain rows t

@@ -1,9 +1,12 @@
+pub mod Awaiting
 pub mod Listed
 pub mod ObjectRows
 pub mod Opened
 pub mod Ready
+pub mod Repeated
 pub mod Shown
 pub mod Tabled
 pub mod Threads
 pub mod Tied
 pub mod WaitLists
+pub mod Foremost

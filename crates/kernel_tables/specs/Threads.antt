@@ -1,7 +1,9 @@
 -- What the row of a thread stands for.
-use Rattle.std.specs.Prelude.{◌≡◌, ◌==◌, ◌-◌, ℕ, Bool, true, not, ◌&&◌, List, [], None, slice_set, slice_index_or, if◌then◌else◌}
+use Rattle.std.specs.Prelude.{◌==◌, ◌-◌, ℕ, Bool, true, not, ◌&&◌, List, [], Option, slice_set, slice_index_or, unwrap_or, if◌then◌else◌}
 use Rattle.std.specs.Str.{bytes_eq}
-use Rattle.rt_plain.specs.kernel.State.{Thread, Stage, Initial, Active, Waiting, Suspended, Closed, InCall, no_thread, is_closed}
+use Rattle.rt_plain.specs.kernel.Effects.{retry_of}
+use Rattle.rt_plain.specs.kernel.State.{Thread, Stage, Initial, Active, Waiting, Suspended, Closed, no_thread, is_closed}
+use Rattle.kernel_tables.specs.Awaiting.{awaited_of}
 use Rattle.kernel_tables.specs.declared.stage.Stage.{Stage as OwnStage}
 use Rattle.kernel_tables.specs.declared.threads.Thread.{Thread as ThreadRow}
 use Rattle.kernel_tables.specs.declared.vars.Vars.{Vars}
@@ -10,11 +12,11 @@ use Rattle.kernel_tables.specs.declared.vars.Vars.{Vars}
 abbrev pub stage_of : OwnStage → Stage
 stage_of OwnStage.Initial = Initial
 stage_of OwnStage.Active = Active
-stage_of (OwnStage.Waiting call arrival) = Waiting (InCall call) arrival
+stage_of (OwnStage.Waiting what arrival) = Waiting (awaited_of what) arrival
 stage_of OwnStage.Suspended = Suspended
 stage_of OwnStage.Closed = Closed
 
--- a thread. What isn't built yet is constant: it has no text, and makes no call again
+-- a thread
 abbrev pub plain_thread : ThreadRow → Thread
 plain_thread r = record {
   name = r.name;
@@ -26,11 +28,11 @@ plain_thread r = record {
   next = r.vars.next;
   code = r.vars.code;
   value = r.vars.value;
-  text = [];
+  text = unwrap_or r.text [];
   counter = r.vars.counter;
   locks = r.vars.locks;
   marked = r.vars.marked;
-  retry = None;
+  retry = r.retry;
 }
 
 -- what a thread has that no wait list depends on
@@ -57,11 +59,6 @@ row_at threads t = slice_index_or threads t no_thread
 abbrev pub is_found : List ℕ → Thread → Bool
 is_found name row = not (is_closed row.stage) && bytes_eq row.name name
 
--- what isn't built yet is so in a row
-pub record IsPlainRow (row : Thread) : Type 0 where
-  pub retry : row.retry ≡ None
-  pub text : row.text ≡ []
-
--- no thread has a text or makes a call again
-abbrev pub ArePlain : List Thread → Type 0
-ArePlain threads = (t : ℕ) → IsPlainRow (row_at threads t)
+-- a woken thread that has to make again the call in which it waits, whose wait was due at a moment, if at any
+abbrev pub retried_row : Option ℕ → Thread → Thread
+retried_row due row = record row { stage = Active; retry = retry_of row.stage due }

@@ -1,6 +1,8 @@
 //! The threads of the kernel and the objects that they wait for, with who waits for which.
 #![tactic(auto)]
 
+mod awaited;
+mod block_line;
 mod event_table;
 mod lists;
 mod mailbox_table;
@@ -8,6 +10,7 @@ mod object_rows;
 mod open;
 mod queue_table;
 mod ready;
+mod retry;
 mod sem_table;
 mod shown;
 mod stage;
@@ -19,6 +22,8 @@ mod wait_list;
 mod waking;
 mod woken;
 
+pub use awaited::Awaited;
+pub use retry::Retry;
 pub use stage::Stage;
 pub use tables::Tables;
 pub use thread_list::ThreadList;

@@ -5,6 +5,7 @@ ghost use Rattle.kernel_tables.specs.Listed.{waits_in, slots_in, want_in, left, 
 ghost use Rattle.kernel_tables.specs.Threads.{stage_of};
 ghost use Rattle.kernel_tables.specs.WaitLists.{list_of, number_at, list_at};
 
+use crate::awaited::Awaited;
 use crate::stage::Stage;
 use crate::wait_list::WaitList;
 use ipc_counts::{EventObj, Sem, Want};
@@ -83,7 +84,7 @@ impl Lists {
         ensures { result ≡ list_at self.now.objects (stage_of stage.now) }
     {
         match stage {
-            Stage::Waiting(call, _) => self.list_of(call),
+            Stage::Waiting(Awaited::Call(call), _) => self.list_of(call),
             _ => None,
         }
     }

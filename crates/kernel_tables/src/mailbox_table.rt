@@ -1,10 +1,12 @@
-ghost use Rattle.std.specs.Prelude.{◌≡◌, ◌<◌, ◌≤◌, ◌∷◌, ◌++◌, [], length, is_some, slice_get, IfSome, Some};
+ghost use Rattle.std.specs.Prelude.{◌≡◌, ◌<◌, ◌≤◌, ◌∷◌, ◌++◌, [], length, true, is_some, slice_get, IfSome, Some};
 ghost use Rattle.std.specs.Bool.{OnTrue, OnFalse};
 ghost use Rattle.std.specs.Option.{option_map};
 ghost use Rattle.rt_plain.specs.kernel.State.{Mailbox as PlainMailbox};
 ghost use Rattle.rt_plain.specs.kernel.MailboxCalls.{has_mail_room};
 ghost use Rattle.rt_plain.specs.kernel.Waiting.{head_of};
 ghost use Rattle.kernel_tables.specs.Tabled.{found_mailbox, mails_put, mails_taken, mail_line, CreatesMailbox, without_mailbox};
+ghost use Rattle.kernel_tables.specs.Repeated.{is_repeated};
+ghost use Rattle.kernel_tables.specs.Threads.{row_at};
 
 use crate::ready::enter_all;
 use crate::tables::Tables;
@@ -49,6 +51,7 @@ impl Tables {
     pub fn first_at_mailbox(&self, name: &Name, end: End) -> Option<ThreadNo>
         ensures first { (mailbox : PlainMailbox) → found_mailbox self.now.mailboxes name.now ≡ Some mailbox → result ≡ head_of (mail_line self.now.threads mailbox end) }
         ensures there { IfSome result (λ t. t < length self.now.threads) }
+        ensures waits { IfSome result (λ t. is_repeated (row_at self.now.threads t).stage ≡ true) }
     {
         let no = self.lists.objects.find(Class::Mailbox, name)?;
         self.lists.channels.first(ChannelKind::Mailbox, end, no)

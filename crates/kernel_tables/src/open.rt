@@ -39,6 +39,8 @@ fn thread_of(def: &ThreadDef) -> Thread
         base: def.prio,
         core: def.core,
         stage: first_stage(def.started),
+        retry: None,
+        text: None,
         vars: Vars {
             slice: def.slice,
             left: def.slice,

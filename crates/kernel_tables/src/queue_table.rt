@@ -1,9 +1,11 @@
-ghost use Rattle.std.specs.Prelude.{◌≡◌, ◌<◌, ◌≤◌, ◌∷◌, ◌++◌, [], length, is_some, slice_get, IfSome, Some};
+ghost use Rattle.std.specs.Prelude.{◌≡◌, ◌<◌, ◌≤◌, ◌∷◌, ◌++◌, [], length, true, is_some, slice_get, IfSome, Some};
 ghost use Rattle.std.specs.Bool.{OnTrue, OnFalse};
 ghost use Rattle.std.specs.Option.{option_map};
 ghost use Rattle.rt_plain.specs.kernel.State.{MsgQueue as PlainQueue};
 ghost use Rattle.rt_plain.specs.kernel.Waiting.{head_of};
 ghost use Rattle.kernel_tables.specs.Tabled.{found_queue, message_answer, messages_put, messages_taken, message_line, CreatesQueue, without_queue};
+ghost use Rattle.kernel_tables.specs.Repeated.{is_repeated};
+ghost use Rattle.kernel_tables.specs.Threads.{row_at};
 
 use crate::ready::enter_all;
 use crate::tables::Tables;
@@ -48,6 +50,7 @@ impl Tables {
     pub fn first_at_queue(&self, name: &Name, end: End) -> Option<ThreadNo>
         ensures first { (queue : PlainQueue) → found_queue self.now.queues name.now ≡ Some queue → result ≡ head_of (message_line self.now.threads queue end) }
         ensures there { IfSome result (λ t. t < length self.now.threads) }
+        ensures waits { IfSome result (λ t. is_repeated (row_at self.now.threads t).stage ≡ true) }
     {
         let no = self.lists.objects.find(Class::MsgQueue, name)?;
         self.lists.channels.first(ChannelKind::MsgQueue, end, no)

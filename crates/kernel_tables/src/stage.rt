@@ -1,10 +1,15 @@
 ghost use Rattle.std.specs.Prelude.{◌≡◌, false, true};
+ghost use Rattle.rt_plain.specs.kernel.DeviceCalls.{waits_at_console};
+ghost use Rattle.rt_plain.specs.kernel.Effects.{retry_of};
 ghost use Rattle.rt_plain.specs.kernel.State.{is_closed, is_initial, is_suspended};
 ghost use Rattle.rt_plain.specs.kernel.Sound.{is_waiting};
 ghost use Rattle.rt_plain.specs.kernel.Due.{timeout_code};
 ghost use Rattle.rt_plain.specs.kernel.Rows.{state_at};
+ghost use Rattle.kernel_tables.specs.Repeated.{is_repeated};
 ghost use Rattle.kernel_tables.specs.Threads.{stage_of};
 
+use crate::awaited::Awaited;
+use crate::retry::Retry;
 use rt_base::Code;
 use rt_plain::{Call, ThreadState};
 
@@ -15,8 +20,8 @@ pub enum Stage {
     Initial,
     /// In the ready list, or on a core.
     Active,
-    /// In a call that ends later, with the arrival number of its wait.
-    Waiting(Call, u64),
+    /// Waits for this, with the arrival number of its wait.
+    Waiting(Awaited, u64),
     Suspended,
     /// Ended: it is found no more.
     Closed,
@@ -63,13 +68,35 @@ impl Stage {
         }
     }
 
+    // Whether the thread waits for bytes of the console.
+    pub(crate) fn waits_at_console(&self) -> bool
+        ensures { result ≡ waits_at_console (stage_of self.now) }
+    {
+        match self {
+            Stage::Waiting(Awaited::Console, _) => true,
+            _ => false,
+        }
+    }
+
     // The code with which a wait ends at its due moment: 0 for a delay, and else a timeout.
     pub(crate) fn timeout_code(&self) -> Code
         ensures { result ≡ timeout_code (stage_of self.now) }
     {
         match self {
-            Stage::Waiting(Call::Delay(_), _) => Code::Ok,
+            Stage::Waiting(Awaited::Call(Call::Delay(_)), _) => Code::Ok,
             _ => Code::Timeout,
+        }
+    }
+
+    // What a thread that waits in a call on a mailbox or a message queue, for the console or for a work goes for again,
+    // where its first wait was due at a moment, if at any.
+    pub(crate) fn retry(self, due: Option<u64>) -> Option<Retry>
+        requires { is_repeated (stage_of self) ≡ true }
+        ensures { result ≡ retry_of (stage_of self) due }
+    {
+        match self {
+            Stage::Waiting(what, _) => Some(Retry::new(what, due)),
+            _ => None,
         }
     }
 

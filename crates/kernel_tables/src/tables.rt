@@ -1,17 +1,21 @@
-ghost use Rattle.std.specs.Prelude.{◌≡◌, ◌<◌, ◌++◌, ◌∷◌, ◌==◌, [], filter, length, not, true, false, None};
+ghost use Rattle.std.specs.Prelude.{◌≡◌, ◌<◌, ◌++◌, ◌∷◌, ◌==◌, [], filter, length, not, true, false, unwrap_or, None};
 ghost use Rattle.rt_plain.specs.kernel.Sound.{is_active};
 ghost use Rattle.rt_plain.specs.kernel.State.{Active, Closed, InCall, Suspended, Waiting, is_among};
 ghost use Rattle.rt_plain.specs.kernel.Ticks.{thread_after_slice};
+ghost use Rattle.kernel_tables.specs.Awaiting.{awaited_of};
+ghost use Rattle.kernel_tables.specs.Repeated.{is_in_call, is_repeated};
 ghost use Rattle.kernel_tables.specs.Tabled.{knows, rebased};
-ghost use Rattle.kernel_tables.specs.Threads.{row_at, with_row, with_vars};
+ghost use Rattle.kernel_tables.specs.Threads.{row_at, with_row, with_vars, retried_row};
 
+use crate::awaited::Awaited;
 use crate::lists::Lists;
 use crate::ready::rebase;
+use crate::retry::Retry;
 use crate::stage::Stage;
 use crate::threads::Threads;
 use crate::vars::Vars;
 use ready_list::ReadyList;
-use rt_base::{Code, Prio, ThreadNo};
+use rt_base::{Code, Prio, Text, ThreadNo};
 use rt_plain::Call;
 use std::marker::Model;
 
@@ -57,6 +61,28 @@ impl Tables {
             .add_tail(t, self.threads.base(t), self.threads.core(t));
     }
 
+    /// The thread, which waits in a call on a mailbox or a message queue, for the console or for a work, is active, at the
+    /// end of the ready list, and has to go for that again. It leaves its wait, which was due at a moment, if at any.
+    pub fn activate_to_retry(&mut self, t: ThreadNo, due: Option<u64>)
+        requires there { t < length self.old.threads }
+        requires waits { is_repeated (row_at self.old.threads t).stage ≡ true }
+        ensures { self.new ≡ record self.old { threads = with_row self.old.threads t (retried_row due); ready = self.old.ready ++ t ∷ [] } }
+    {
+        self.lists.leave_at(t, self.threads.stage(t));
+        self.threads.retry(t, due);
+        self.ready
+            .add_tail(t, self.threads.base(t), self.threads.core(t));
+    }
+
+    /// What the thread has to make again, which it then has no more: `None` exactly where there is nothing.
+    pub fn take_retry(&mut self, t: ThreadNo) -> Option<Retry>
+        requires { t < length self.old.threads }
+        ensures retry { result ≡ (row_at self.old.threads t).retry }
+        ensures state { self.new ≡ record self.old { threads = with_row self.old.threads t (λ row. record row { retry = None }) } }
+    {
+        self.threads.take_retry(t)
+    }
+
     /// The thread is suspended: it leaves the ready list and its wait.
     pub fn suspend(&mut self, t: ThreadNo)
         requires { t < length self.old.threads }
@@ -86,7 +112,19 @@ impl Tables {
     {
         self.lists.leave_at(t, self.threads.stage(t));
         self.lists.join(t, &call, self.threads.base(t), at);
-        self.threads.stand(t, Stage::Waiting(call, at));
+        self.threads
+            .stand(t, Stage::Waiting(Awaited::Call(call), at));
+    }
+
+    /// The thread, which isn't ready, waits for the console or for a work, with its arrival number.
+    pub fn wait_apart(&mut self, t: ThreadNo, what: Awaited, at: u64)
+        requires there { t < length self.old.threads }
+        requires unready { is_among self.old.ready t ≡ false }
+        requires apart { is_in_call (awaited_of what) ≡ false }
+        ensures { self.new ≡ record self.old { threads = with_row self.old.threads t (λ row. record row { stage = Waiting (awaited_of what) at }) } }
+    {
+        self.lists.leave_at(t, self.threads.stage(t));
+        self.threads.stand(t, Stage::Waiting(what, at));
     }
 
     /// The thread has another base priority, also where it waits. Where the base is new, a ready thread goes to the end.
@@ -106,6 +144,14 @@ impl Tables {
         ensures { self.new ≡ record self.old { threads = with_row self.old.threads t (with_vars vars) } }
     {
         self.threads.set_vars(t, vars);
+    }
+
+    /// The thread has this last text, an empty one where none is given.
+    pub fn set_text(&mut self, t: ThreadNo, text: Option<Text>)
+        requires { t < length self.old.threads }
+        ensures { self.new ≡ record self.old { threads = with_row self.old.threads t (λ row. record row { text = unwrap_or text [] }) } }
+    {
+        self.threads.set_text(t, text);
     }
 
     /// The thread does this statement next.

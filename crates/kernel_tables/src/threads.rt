@@ -1,25 +1,31 @@
-ghost use Rattle.std.specs.Prelude.{◌≡◌, ◌-◌, ◌<◌, ◌≤◌, ◌&&◌, length, map, true, false, IfSome, None};
+ghost use Rattle.std.specs.Prelude.{◌≡◌, ◌-◌, ◌<◌, ◌≤◌, ◌&&◌, [], length, map, true, false, is_some, unwrap_or, IfSome, None};
 ghost use Rattle.std.specs.List.{position_from};
 ghost use Rattle.rt_plain.specs.kernel.State.{is_closed, is_initial, is_suspended, Closed};
 ghost use Rattle.rt_plain.specs.kernel.Sound.{is_waiting};
+ghost use Rattle.rt_plain.specs.kernel.DeviceCalls.{waits_at_console};
 ghost use Rattle.rt_plain.specs.kernel.Due.{timeout_code};
 ghost use Rattle.rt_plain.specs.kernel.Rows.{state_at};
+ghost use Rattle.kernel_tables.specs.Repeated.{has_call, is_repeated};
 ghost use Rattle.kernel_tables.specs.Tabled.{woken_row, given_row};
-ghost use Rattle.kernel_tables.specs.Threads.{stage_of, plain_thread, with_row, row_at, vars_of, with_vars, is_found, ArePlain};
+ghost use Rattle.kernel_tables.specs.Threads.{stage_of, plain_thread, with_row, row_at, vars_of, with_vars, is_found, retried_row};
 
+use crate::retry::Retry;
 use crate::stage::Stage;
 use crate::vars::Vars;
-use rt_base::{Code, CoreNo, Name, Prio, ThreadNo};
+use rt_base::{Code, CoreNo, Name, Prio, Text, ThreadNo};
 use rt_plain::ThreadState;
 use std::marker::Model;
+use std::mem;
 
-/// A thread: its priority, the core that it is bound to, where it stands, and the rest.
+/// A thread: its priority, the core that it is bound to, where it stands, what it has to make again, its last text, and the rest.
 #[derive(Drop)]
 pub struct Thread {
     pub name: Name,
     pub base: Prio,
     pub core: Option<CoreNo>,
     pub stage: Stage,
+    pub retry: Option<Retry>,
+    pub text: Option<Text>,
     pub vars: Vars,
 }
 
@@ -38,6 +44,14 @@ fn position(threads: &[Thread], name: &[u8]) -> Option<usize>
     ensures within { IfSome result (λ place. place < length threads.now) }
 {
     threads.iter().position(|row| row.is_found(name))
+}
+
+// Where the row of a thread stands that waits for bytes of the console.
+fn console_place(threads: &[Thread]) -> Option<usize>
+    ensures found { result ≡ position_from (λ row. waits_at_console (plain_thread row).stage) 0 threads.now }
+    ensures within { IfSome result (λ place. place < length threads.now) }
+{
+    threads.iter().position(|row| row.stage.waits_at_console())
 }
 
 /// The threads by number. Contracts see them as the plain threads.
@@ -75,19 +89,21 @@ impl Threads {
         self.items.len()
     }
 
-    /// No thread has a text, and none makes a call again.
-    pub fn know_plain(&self)
-        ensures { ArePlain self.now }
-    {
-        let _items = &self.items;
-    }
-
     /// The thread of this name which hasn't ended.
     pub fn find(&self, name: &Name) -> Option<ThreadNo>
         ensures found { result ≡ position_from (is_found name.now) 0 self.now }
         ensures there { IfSome result (λ t. t < length self.now) }
     {
         let place = position(&self.items, name.bytes())?;
+        Some(ThreadNo(place as u16))
+    }
+
+    /// The thread that waits for bytes of the console: `None` exactly where none does.
+    pub fn console_waiter(&self) -> Option<ThreadNo>
+        ensures found { result ≡ position_from (λ row. waits_at_console row.stage) 0 self.now }
+        ensures there { IfSome result (λ t. t < length self.now) }
+    {
+        let place = console_place(&self.items)?;
         Some(ThreadNo(place as u16))
     }
 
@@ -145,6 +161,37 @@ impl Threads {
         ensures { result ≡ (row_at self.now t).value }
     {
         self.items[t.0 as usize].vars.value
+    }
+
+    /// The last text of a thread, at most 64 bytes.
+    pub fn text(&self, t: ThreadNo) -> &[u8]
+        requires { t < length self.now }
+        ensures text { result.now ≡ (row_at self.now t).text }
+        ensures short { length result.now ≤ 64 }
+    {
+        match &self.items[t.0 as usize].text {
+            Some(text) => text.bytes(),
+            None => b"",
+        }
+    }
+
+    /// Whether a thread has something to go for again.
+    pub fn retries(&self, t: ThreadNo) -> bool
+        requires { t < length self.now }
+        ensures { result ≡ is_some (row_at self.now t).retry }
+    {
+        self.items[t.0 as usize].retry.is_some()
+    }
+
+    /// Whether a thread has a call to make again.
+    pub fn has_call(&self, t: ThreadNo) -> bool
+        requires { t < length self.now }
+        ensures { result ≡ has_call (row_at self.now t).retry }
+    {
+        match &self.items[t.0 as usize].retry {
+            Some(retry) => retry.is_call(),
+            None => false,
+        }
     }
 
     /// How many scheduler locks a thread has.
@@ -243,6 +290,7 @@ impl Threads {
     {
         let row = &mut self.items[t.0 as usize];
         row.stage = Stage::Closed;
+        row.retry = None;
     }
 
     // The thread has these variables.
@@ -252,6 +300,37 @@ impl Threads {
     {
         let row = &mut self.items[t.0 as usize];
         row.vars = vars;
+    }
+
+    // The thread has this last text, an empty one where none is given.
+    pub(crate) fn set_text(&mut self, t: ThreadNo, text: Option<Text>)
+        requires { t < length self.old }
+        ensures { self.new ≡ with_row self.old t (λ row. record row { text = unwrap_or text [] }) }
+    {
+        let row = &mut self.items[t.0 as usize];
+        row.text = text;
+    }
+
+    // What the thread has to make again, which it then has no more.
+    pub(crate) fn take_retry(&mut self, t: ThreadNo) -> Option<Retry>
+        requires { t < length self.old }
+        ensures retry { result ≡ (row_at self.old t).retry }
+        ensures threads { self.new ≡ with_row self.old t (λ row. record row { retry = None }) }
+    {
+        let row = &mut self.items[t.0 as usize];
+        row.retry.take()
+    }
+
+    // The thread, which waits in a call on a mailbox or a message queue, for the console or for a work, wakes to go for
+    // that again. Its wait was due at a moment, if at any.
+    pub(crate) fn retry(&mut self, t: ThreadNo, due: Option<u64>)
+        requires there { t < length self.old }
+        requires waits { is_repeated (row_at self.old t).stage ≡ true }
+        ensures { self.new ≡ with_row self.old t (retried_row due) }
+    {
+        let row = &mut self.items[t.0 as usize];
+        let stage = mem::replace(&mut row.stage, Stage::Active);
+        row.retry = stage.retry(due);
     }
 
     // The thread has another base priority.

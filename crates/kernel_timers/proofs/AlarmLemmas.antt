@@ -1,9 +1,11 @@
 -- What the calls on alarms leave.
-use Rattle.std.proofs.Common.{ℕ, ◌≡◌, ◌≢◌, ◌+◌, ◌-◌, ◌%◌, ◌<◌, ◌≤◌, List, [], ◌∷◌, ◌++◌, length, map, filter, Bool, true, false, not, ◌==◌, Option, Some, None, refl, sym, ap, ◌∙◌, subst, arith, set, reverse, is_some, slice_index_or, slice_set, get_or, MatchOption, IfSome}
+use Rattle.std.proofs.Common.{ℕ, ◌≡◌, ◌≢◌, ◌+◌, ◌%◌, ◌<◌, ◌≤◌, ◌||◌, Bool, true, eqb-true, List, [], ◌∷◌, ◌++◌, length, map, false, not, Option, Some, None, refl, sym, ap, ◌∙◌, subst, arith, set, reverse, is_some, slice_index_or, slice_set, MatchOption, IfSome}
 use Rattle.std.specs.Option.{option_map}
+use Rattle.std.specs.Prelude.{◌==◌}
 use Rattle.std.specs.List.{All, AllByRecursion, AllPairs, list_any}
+use Rattle.std.proofs.lemmas.Map.Views.{Contains-from_any}
 use Rattle.std.proofs.lemmas.List.{get_or-map, map-set, length-map, length-reverse, length-set}
-use Rattle.std.proofs.lemmas.List.Elements.{recursion_from_All}
+use Rattle.std.proofs.lemmas.List.Elements.{All-from_recursion, recursion_from_All}
 use Rattle.rt_plain.specs.kernel.State.{Timer, ArmedRow, Alarm, OfThread, OfTimer}
 use Rattle.rt_plain.specs.kernel.Due.{due_rows_at}
 use Rattle.rt_plain.specs.declared.board.TimerDef.{TimerDef}
@@ -11,7 +13,7 @@ use Rattle.rt_plain.specs.kernel.Opening.{new_timer}
 use Rattle.rt_plain.specs.kernel.Sleeps.{is_empty}
 use Rattle.kernel_timers.specs.Arming.{MayOpen}
 use Rattle.timer_skip.specs.Armed.{Armed, IsLeastLeft, ArmedRow as SkipRow, after_ticks, row_after, is_row_of, left_of, tick_after, is_armed as is_row_armed, without as without_row, due_rows}
-use Rattle.kernel_timers.specs.Alarmed.{AlarmsSeen, no_timer, alarm_of, row_of, names_of, timer_at, put_timer, due_of, is_armed, without, first_alarm, IsAlarmed, IsTimed}
+use Rattle.kernel_timers.specs.Alarmed.{AlarmsSeen, no_timer, alarm_of, row_of, names_of, timer_at, put_timer, due_of, is_armed, without, first_alarm, IsAlarmed, IsTimed, IsNextDue}
 use Rattle.kernel_timers.proofs.RowLemmas.{thread-alarm, timer-alarm, without-is, armed-is, due-at, each-filter, each-push, each-of_mapped, each-mapped, map-push, advanced-is, due-is, first-is, first-there}
 use Rattle.kernel_timers.proofs.TimerLemmas.{name-at, names-length, names-set, put-is, timed-set, opened-apart, opened-timed, map-reverse}
 
@@ -33,27 +35,49 @@ timer-is ts o who is = ap (alarm_of (names_of ts)) is ∙ timer-alarm (names_of 
 pub thread-is : (ts : List Timer) (t who : ℕ) → who ≡ t → t < 256 → alarm_of (names_of ts) who ≡ OfThread t
 thread-is ts t who is lt = ap (alarm_of (names_of ts)) is ∙ thread-alarm (names_of ts) t lt
 
--- a tick
-pub rows-ahead : (m : ℕ) (ts : List Timer) (a : Armed) (now : AlarmsSeen) → seen_of m ts a ≡ now → All (λ (row : ArmedRow Alarm). now.moment < row.due) now.rows → AllByRecursion (λ (r : SkipRow). 1 ≤ r.left) a.rows
-rows-ahead m ts a now is ahead =
-    each-of_mapped (row_of m (names_of ts)) (λ (row : ArmedRow Alarm). m < row.due) (λ (r : SkipRow). 1 ≤ r.left) (λ r k. omega (arith, k)) a.rows
-    (recursion_from_All (λ (row : ArmedRow Alarm). m < row.due) (map (row_of m (names_of ts)) a.rows) (subst (λ (s : AlarmsSeen). All (λ (row : ArmedRow Alarm). s.moment < row.due) s.rows) (sym is) ahead))
+-- so many ticks
+pub rows-ahead : (m n : ℕ) (ts : List Timer) (a : Armed) (now : AlarmsSeen) → seen_of m ts a ≡ now → All (λ (row : ArmedRow Alarm). now.moment + n ≤ row.due) now.rows → AllByRecursion (λ (r : SkipRow). n ≤ r.left) a.rows
+rows-ahead m n ts a now is ahead =
+    each-of_mapped (row_of m (names_of ts)) (λ (row : ArmedRow Alarm). m + n ≤ row.due) (λ (r : SkipRow). n ≤ r.left) (λ r k. omega (arith, k)) a.rows
+    (recursion_from_All (λ (row : ArmedRow Alarm). m + n ≤ row.due) (map (row_of m (names_of ts)) a.rows) (subst (λ (s : AlarmsSeen). All (λ (row : ArmedRow Alarm). s.moment + n ≤ row.due) s.rows) (sym is) ahead))
 
-tick-more : (tick m : ℕ) → tick ≡ m % 4294967296 → (tick + 1) % 4294967296 ≡ (m + 1) % 4294967296
-tick-more tick m is = omega arith
+tick-more : (tick m n : ℕ) → tick ≡ m % 4294967296 → (tick + n) % 4294967296 ≡ (m + n) % 4294967296
+tick-more tick m n is = omega arith
 
-pub advanced-kept : (m : ℕ) (ts : List Timer) (a b : Armed) → b ≡ after_ticks 1 a → IsAlarmed m ts a → IsAlarmed (m + 1) ts b
-advanced-kept m ts a b is h = subst (IsAlarmed (m + 1) ts) (sym is) (record {
+pub advanced-kept : (m n : ℕ) (ts : List Timer) (a b : Armed) → b ≡ after_ticks n a → IsAlarmed m ts a → IsAlarmed (m + n) ts b
+advanced-kept m n ts a b is h = subst (IsAlarmed (m + n) ts) (sym is) (record {
   few = h.few;
   count = h.count;
-  tick = tick-more a.tick m h.tick;
-  below = each-mapped (row_after 1) (λ (r : SkipRow). r.timer < 256 + length ts) (λ (r : SkipRow). r.timer < 256 + length ts) (λ r lt. lt) a.rows h.below;
+  tick = tick-more a.tick m n h.tick;
+  below = each-mapped (row_after n) (λ (r : SkipRow). r.timer < 256 + length ts) (λ (r : SkipRow). r.timer < 256 + length ts) (λ r lt. lt) a.rows h.below;
   apart = h.apart;
   timed = h.timed;
 })
 
-pub advanced-seen : (m : ℕ) (ts : List Timer) (a b : Armed) → b ≡ after_ticks 1 a → AllByRecursion (λ (r : SkipRow). 1 ≤ r.left) a.rows → seen_of (m + 1) ts b ≡ record (seen_of m ts a) { moment = m + 1 }
-advanced-seen m ts a b is ahead = ap (seen_of (m + 1) ts) is ∙ ap (λ (rows : List (ArmedRow Alarm)). (let s : AlarmsSeen = record { moment = m + 1; timers = ts; rows = rows } in s)) (advanced-is m (names_of ts) a.rows ahead)
+pub advanced-seen : (m n : ℕ) (ts : List Timer) (a b : Armed) → b ≡ after_ticks n a → AllByRecursion (λ (r : SkipRow). n ≤ r.left) a.rows → seen_of (m + n) ts b ≡ record (seen_of m ts a) { moment = m + n }
+advanced-seen m n ts a b is ahead = ap (seen_of (m + n) ts) is ∙ ap (λ (rows : List (ArmedRow Alarm)). (let s : AlarmsSeen = record { moment = m + n; timers = ts; rows = rows } in s)) (advanced-is m n (names_of ts) a.rows ahead)
+
+-- the row that is due next
+has-due : (m left : ℕ) (names : List (List ℕ)) (rows : List SkipRow) → list_any (λ (r : SkipRow). r.left == left) rows ≡ true → list_any (λ n. m + left == n) (map (λ (row : ArmedRow Alarm). row.due) (map (row_of m names) rows)) ≡ true
+has-due m left names [] has = absurd cc
+has-due m left names (r ∷ rows) has = by_test (r.left == left) refl has (has-due m left names rows) where
+  by_test : (c : Bool) → (r.left == left) ≡ c → c || list_any (λ (x : SkipRow). x.left == left) rows ≡ true
+      → (list_any (λ (x : SkipRow). x.left == left) rows ≡ true → list_any (λ n. m + left == n) (map (λ (row : ArmedRow Alarm). row.due) (map (row_of m names) rows)) ≡ true)
+      → (m + left == m + r.left) || list_any (λ n. m + left == n) (map (λ (row : ArmedRow Alarm). row.due) (map (row_of m names) rows)) ≡ true
+  by_test true same rest more = rw (here same) refl where
+    here : (r.left == left) ≡ true → (m + left == m + r.left) ≡ true
+    here e = grind (arith, e)
+  by_test false same rest more = rw (more rest) (or-true (m + left == m + r.left)) where
+    or-true : (c : Bool) → c || true ≡ true
+    or-true true = refl
+    or-true false = refl
+
+pub next-due : (m : ℕ) (ts : List Timer) (a : Armed) (o : Option ℕ) → MatchOption o (a.rows ≡ []) (λ left. IsLeastLeft left a.rows) → IsNextDue (seen_of m ts a) o
+next-due m ts a None none = ap (map (row_of m (names_of ts))) none
+next-due m ts a (Some left) least = (
+  Contains-from_any (λ x y same. eqb-true x y same) (m + left) (map (λ (row : ArmedRow Alarm). row.due) (seen_of m ts a).rows) (has-due m left (names_of ts) a.rows least.one_has_it),
+  All-from_recursion (λ (row : ArmedRow Alarm). m + left ≤ row.due) (seen_of m ts a).rows (each-mapped (row_of m (names_of ts)) (λ (row : ArmedRow Alarm). m + left ≤ row.due) (λ (r : SkipRow). left ≤ r.left) (λ r le. omega (arith, le)) a.rows (recursion_from_All (λ (r : SkipRow). left ≤ r.left) a.rows least.none_has_less)),
+)
 
 -- a row less
 pub stopped-kept : (m : ℕ) (ts : List Timer) (a b : Armed) (who : ℕ) → b ≡ record a { rows = without_row who a.rows } → IsAlarmed m ts a → IsAlarmed m ts b
@@ -88,6 +112,12 @@ pub due-is-at : (m : ℕ) (ts : List Timer) (a : Armed) (who : ℕ) (alarm : Ala
 due-is-at m ts a who alarm h there whose =
     in-32-bits m a.tick (left_of who a.rows) h.tick
     ∙ ap (option_map (λ d. d % 4294967296)) (due-at m (names_of ts) who a.rows h.apart (omega (arith, there, names-length ts)) (below-names ts a.rows h.below) ∙ ap (λ (al : Alarm). due_of al (seen_of m ts a).rows) whose)
+
+-- when the wait of a thread is due
+pub wait-due : (m : ℕ) (ts : List Timer) (a : Armed) (t who : ℕ) → IsAlarmed m ts a → who ≡ t → t < 256 → option_map (λ left. m + left) (left_of who a.rows) ≡ due_of (OfThread t) (seen_of m ts a).rows
+wait-due m ts a t who h is there =
+    due-at m (names_of ts) who a.rows h.apart (omega (arith, is, there)) (below-names ts a.rows h.below)
+    ∙ ap (λ (al : Alarm). due_of al (seen_of m ts a).rows) (thread-is ts t who is there)
 
 -- a row more
 pub rows-latest : (m : ℕ) (ts : List Timer) (a : Armed) (now : AlarmsSeen) (n : ℕ) → seen_of m ts a ≡ now → All (λ (row : ArmedRow Alarm). row.number < n) now.rows → AllByRecursion (λ (r : SkipRow). r.number < n) a.rows

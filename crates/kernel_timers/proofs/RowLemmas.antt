@@ -1,7 +1,7 @@
 -- Rows of the skip list, and the plain rows that they stand for.
-use Rattle.std.proofs.Common.{ℕ, ◌≡◌, ◌≢◌, ◌+◌, ◌-◌, ◌<◌, ◌≤◌, List, [], ◌∷◌, ◌++◌, length, map, filter, Bool, true, false, cond, not, ◌||◌, nat_lt, ◌==◌, Option, Some, None, refl, sym, ap, ◌∙◌, subst, arith}
+use Rattle.std.proofs.Common.{ℕ, ◌≡◌, ◌≢◌, ◌+◌, ◌-◌, ◌<◌, ◌≤◌, List, [], ◌∷◌, ◌++◌, length, map, filter, Bool, true, false, cond, not, ◌||◌, nat_lt, ◌==◌, Some, None, refl, sym, ap, ◌∙◌, subst, arith}
 use Rattle.std.specs.Prelude.{slice_index_or}
-use Rattle.std.specs.List.{AllByRecursion, AllPairs, find, list_any}
+use Rattle.std.specs.List.{AllByRecursion, AllPairs, find}
 use Rattle.std.specs.Option.{option_map}
 use Rattle.std.specs.Str.{bytes_eq}
 use Rattle.std.proofs.lemmas.Bool.{ltb-true, ltb-false, eqb-true}
@@ -138,14 +138,14 @@ pub map-push : {X Y : Type 0} (f : X → Y) (xs : List X) (x : X) → map f (xs 
 map-push f [] x = refl
 map-push {Y = Y} f (y ∷ ys) x = ap (λ (l : List Y). f y ∷ l) (map-push f ys x)
 
--- a tick more
-pub advanced-is : (moment : ℕ) (names : List (List ℕ)) (rows : List SkipRow) → AllByRecursion (λ (r : SkipRow). 1 ≤ r.left) rows → map (row_of (moment + 1) names) (map (row_after 1) rows) ≡ map (row_of moment names) rows
-advanced-is moment names [] ahead = refl
-advanced-is moment names (r ∷ rs) ahead =
-    let some : 1 ≤ r.left = ahead.0 in
-    let same : moment + 1 + (r.left - 1) ≡ moment + r.left = omega arith in
-    ap (λ d. (let row : ArmedRow Alarm = record { due = d; number = r.number; alarm = alarm_of names r.timer } in row) ∷ map (row_of (moment + 1) names) (map (row_after 1) rs)) same
-    ∙ ap (λ (l : List (ArmedRow Alarm)). row_of moment names r ∷ l) (advanced-is moment names rs ahead.1)
+-- so many ticks more
+pub advanced-is : (moment n : ℕ) (names : List (List ℕ)) (rows : List SkipRow) → AllByRecursion (λ (r : SkipRow). n ≤ r.left) rows → map (row_of (moment + n) names) (map (row_after n) rows) ≡ map (row_of moment names) rows
+advanced-is moment n names [] ahead = refl
+advanced-is moment n names (r ∷ rs) ahead =
+    let some : n ≤ r.left = ahead.0 in
+    let same : moment + n + (r.left - n) ≡ moment + r.left = omega (arith, some) in
+    ap (λ d. (let row : ArmedRow Alarm = record { due = d; number = r.number; alarm = alarm_of names r.timer } in row) ∷ map (row_of (moment + n) names) (map (row_after n) rs)) same
+    ∙ ap (λ (l : List (ArmedRow Alarm)). row_of moment names r ∷ l) (advanced-is moment n names rs ahead.1)
 
 -- the rows that are due
 

@@ -1,7 +1,7 @@
 -- The timers by number and by name.
-use Rattle.std.proofs.Common.{ℕ, zero, suc, ◌≡◌, ◌≢◌, ◌+◌, ◌<◌, ◌≤◌, List, [], ◌∷◌, length, map, Bool, true, false, cond, reverse, ◌++◌, ◌-◌, Option, Some, None, refl, sym, ap, ◌∙◌, subst, arith, set, get_or}
-use Rattle.std.specs.Prelude.{slice_index_or, if◌then◌else◌}
-use Rattle.std.specs.List.{AllByRecursion, AllPairs, find, position_from}
+use Rattle.std.proofs.Common.{ℕ, zero, suc, ◌≡◌, ◌≢◌, ◌+◌, ◌<◌, ◌≤◌, List, [], ◌∷◌, length, map, Bool, true, false, cond, reverse, ◌++◌, ◌-◌, Some, None, refl, sym, ap, ◌∙◌, subst, arith, set, get_or}
+use Rattle.std.specs.Prelude.{slice_index_or}
+use Rattle.std.specs.List.{AllByRecursion, AllPairs, position_from}
 use Rattle.std.specs.Str.{bytes_eq}
 use Rattle.std.proofs.Math.Seq.{map-set_same}
 use Rattle.std.proofs.lemmas.List.{get_or-map, get_or-reverse, length-map, length-reverse, reverse-append}
@@ -164,3 +164,12 @@ all-timed (def ∷ defs) h = (h.0, all-timed defs h.1)
 
 pub opened-timed : (defs : List TimerDef) → AllByRecursion (λ (def : TimerDef). (1 ≤ def.time) × (def.time ≤ 2147483647)) defs → AllByRecursion IsTimed (map new_timer (reverse defs))
 opened-timed defs h = all-timed (reverse defs) (each-reversed (λ (def : TimerDef). (1 ≤ def.time) × (def.time ≤ 2147483647)) defs h)
+
+-- each timer is the one of its name
+pub own : (timers : List Timer) (o : ℕ) → AllPairs (λ one other. one ≢ other) (names_of timers) → o < length timers → IsTimer timers (timer_at timers o).name o
+own [] o apart there = absurd (omega (arith, there))
+own (t ∷ ts) zero apart there = record { there = there; named = refl; found = if-true (bytes_eq t.name t.name) (Some t) (found_timer ts t.name) ((bytes_eq-Decides t.name t.name).1 refl) }
+own (t ∷ ts) (suc o) apart there =
+    let differs : t.name ≢ (timer_at ts o).name = λ is. apart 0 (suc o) [] (omega arith) (omega (arith, there, names-length ts)) (is ∙ sym (name-at ts o)) in
+    let rest : IsTimer ts (timer_at ts o).name o = own ts o (λ i j d before k_there. apart (suc i) (suc j) d (omega (arith, before)) (omega (arith, k_there))) (omega (arith, there)) in
+    record { there = there; named = refl; found = if-false (bytes_eq t.name (timer_at ts o).name) (Some t) (found_timer ts (timer_at ts o).name) (name_differs t.name (timer_at ts o).name differs) ∙ rest.found }

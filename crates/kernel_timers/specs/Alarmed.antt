@@ -1,9 +1,8 @@
 -- What contracts see of the timers and of what is armed.
-use Rattle.std.specs.Prelude.{ℕ, ◌≡◌, ◌≢◌, ◌+◌, ◌-◌, ◌%◌, ◌<◌, ◌≤◌, Bool, not, List, [], ◌∷◌, Option, Some, None, AllPairs, filter, length, map, nat_lt, slice_index_or, if◌then◌else◌}
+use Rattle.std.specs.Prelude.{ℕ, ◌≡◌, ◌≢◌, ◌+◌, ◌-◌, ◌%◌, ◌<◌, ◌≤◌, All, Bool, Contains, not, List, [], ◌∷◌, Option, Some, None, AllPairs, filter, length, map, nat_lt, slice_index_or, if◌then◌else◌}
 use Rattle.std.specs.List.{AllByRecursion, find, list_any}
 use Rattle.std.specs.Option.{option_map}
 use Rattle.std.specs.Str.{bytes_eq}
-use Rattle.rt_plain.specs.declared.board.TimerDef.{TimerDef}
 use Rattle.rt_plain.specs.declared.board.TimerKind.{TimerKind}
 use Rattle.rt_plain.specs.kernel.State.{Timer, ArmedRow, Alarm, OfThread, OfTimer}
 use Rattle.rt_plain.specs.kernel.Effects.{is_alarm}
@@ -59,6 +58,11 @@ due_of alarm rows = option_map (λ r. r.due) (find (λ r. is_alarm alarm r.alarm
 -- the rows but for those of an alarm
 abbrev pub without : Alarm → List (ArmedRow Alarm) → List (ArmedRow Alarm)
 without alarm rows = filter (λ r. not (is_alarm alarm r.alarm)) rows
+
+-- no row is due before so many ticks, and one is due then; or nothing is armed
+abbrev pub IsNextDue : AlarmsSeen → Option ℕ → Type 0
+IsNextDue a None = a.rows ≡ []
+IsNextDue a (Some left) = Contains (map (λ row. row.due) a.rows) (a.moment + left) × All (λ row. a.moment + left ≤ row.due) a.rows
 
 -- the alarm of the first of some rows
 abbrev pub first_alarm : List (ArmedRow Alarm) → Option Alarm

@@ -3,7 +3,7 @@ ghost use Rattle.std.specs.Option.{option_map};
 ghost use Rattle.rt_plain.specs.kernel.State.{OfThread, OfTimer};
 ghost use Rattle.rt_plain.specs.kernel.Due.{due_rows_at};
 ghost use Rattle.rt_plain.specs.kernel.Sleeps.{is_empty};
-ghost use Rattle.kernel_timers.specs.Alarmed.{timer_at, names_of, alarm_of, due_of, is_armed, without, first_alarm};
+ghost use Rattle.kernel_timers.specs.Alarmed.{timer_at, names_of, alarm_of, due_of, is_armed, without, first_alarm, IsNextDue};
 ghost use Rattle.kernel_timers.specs.Arming.{MayArm};
 
 use rt_base::{ObjNo, Steps, ThreadNo, TimerNo};
@@ -60,14 +60,21 @@ impl Alarms {
         self.moment
     }
 
-    /// One tick passes, before which no row is due any more. It touches no row.
-    pub fn advance(&mut self)
-        requires early { self.old.moment < 1099511627775 }
-        requires ahead { All (λ row. self.old.moment < row.due) self.old.rows }
-        ensures { self.new ≡ record self.old { moment = self.old.moment + 1 } }
+    /// So many ticks pass, before the last of which no row is due. It touches no row, however many they are.
+    pub fn advance(&mut self, n: u32)
+        requires early { self.old.moment + n ≤ 1099511627775 }
+        requires ahead { All (λ row. self.old.moment + n ≤ row.due) self.old.rows }
+        ensures { self.new ≡ record self.old { moment = self.old.moment + n } }
     {
-        self.rows.advance(1);
-        self.moment += 1;
+        self.rows.advance(n);
+        self.moment += n as u64;
+    }
+
+    /// How many ticks are left until a row is due: `None` exactly where nothing is armed. It looks at one row.
+    pub fn next_due(&self) -> Option<u32>
+        ensures { IsNextDue self.now result }
+    {
+        self.rows.next_due()
     }
 
     /// Arms the wait of a thread, which isn't armed: it is due at a moment from 1 to 2,147,483,647 ticks later, and its
@@ -88,6 +95,16 @@ impl Alarms {
         ensures { self.new ≡ record self.old { rows = without (OfThread t) self.old.rows } }
     {
         self.rows.stop(thread_no(t));
+    }
+
+    /// The moment at which the wait of a thread is due: `None` exactly where it has no row.
+    pub fn wait_due(&self, t: ThreadNo) -> Option<u64>
+        requires there { t < 256 }
+        requires early { self.now.moment ≤ 1099511627775 }
+        ensures { result ≡ due_of (OfThread t) self.now.rows }
+    {
+        let left = self.rows.left(thread_no(t))?;
+        Some(self.moment + left as u64)
     }
 
     /// Arms a timer: it is due after its time, its start number is above those of all rows, and an earlier row of it is

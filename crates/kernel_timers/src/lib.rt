@@ -3,6 +3,7 @@
 
 mod alarms;
 mod open;
+mod rows;
 mod timers;
 
 pub use alarms::Alarms;

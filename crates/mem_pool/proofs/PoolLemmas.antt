@@ -1,6 +1,6 @@
 -- What is kept of a pool's fields, as blocks are given and freed.
 use Rattle.std.proofs.Common.{ℕ, ◌≡◌, ◌+◌, ◌*◌, ◌<◌, ◌≤◌, zero, suc, Bool, true, false, cond, not, eqb, List, [], ◌∷◌, ◌++◌, length, replicate, Option, Some, None, count_by, slice_get, get_or, set, sym, refl, ap, ◌∙◌, subst, inl, inr, arith, length-set, get_or-set_same, get_or-set_other}
-use Rattle.std.specs.Prelude.{◌≢◌, nat_lt, reverse}
+use Rattle.std.specs.Prelude.{is_some, ◌≢◌, nat_lt, reverse}
 use Rattle.std.specs.Int.{bit_at}
 use Rattle.std.specs.List.{find, range_with_len}
 use Rattle.std.specs.Option.{option_map}
@@ -12,9 +12,9 @@ use Rattle.std.proofs.lemmas.Option.{slice_get_within, slice_get-get_or, get_or_
 use Rattle.std.proofs.lemmas.Bool.{false≢true, eqb-true, eq-eqb, ne_eqb, cond-true, cond-false, cases_eq, cases_lt, cases_Bool, lt-ltb, le-ltb}
 use Rattle.rt_plain.specs.kernel.Waiting.{first_of}
 use Rattle.susp_list.specs.Rows.{Waits, waiters}
-use Rattle.mem_pool.specs.Bits.{IsLeast}
-use Rattle.mem_pool.specs.Frees.{IsBack, IsPassed, without}
-use Rattle.mem_pool.specs.Pools.{PoolBlocks, IsKept, after_alloc, free_bit, free_block, holder_of, holds_block, is_free, last_block, others, place_of, times_held}
+use Rattle.mem_pool.specs.Bits.{IsLeast, IsLowest}
+use Rattle.mem_pool.specs.Frees.{IsBack, IsFreed, IsHanded, IsPassed, without}
+use Rattle.mem_pool.specs.Pools.{PoolBlocks, IsKept, after_alloc, free_bit, free_block, holder_of, holds_block, is_free, last_block, others, place_of, times_held, with_block_held}
 
 -- ---- what a search finds
 
@@ -298,6 +298,12 @@ pub none_given : (size : ℕ) (blocks : List (Option ℕ)) (word : ℕ) (held : 
     → ((k : ℕ) → bit_at word k ≡ 0) → seen size blocks held ws ≡ v → free_block v ≡ None
 none_given size blocks word held room ws v h zeros e = subst (λ w. free_block w ≡ None) e (nothing_free blocks word held room h zeros)
 
+-- whether a block is free
+pub free-told : (size : ℕ) (blocks : List (Option ℕ)) (word : ℕ) (held : List ℕ) (room : ℕ) (ws : Waits) (lowest : Option ℕ) → IsKept blocks word held room → IsLowest word lowest
+    → is_some lowest ≡ is_some (free_block (seen size blocks held ws))
+free-told size blocks word held room ws None h least = sym (ap is_some (nothing_free blocks word held room h least))
+free-told size blocks word held room ws (Some b) h least = sym (ap is_some (lowest_is_free blocks word held room b h least).first)
+
 -- the block that a thread got last is one that it holds
 pub holder_seen : (size : ℕ) (blocks : List (Option ℕ)) (held : List ℕ) (ws : Waits) (v : PoolBlocks) (t b : ℕ) → seen size blocks held ws ≡ v → last_block v t ≡ Some b
     → get_or blocks b None ≡ Some t
@@ -305,19 +311,27 @@ holder_seen size blocks held ws v t b e last =
     ap (λ (w : PoolBlocks). holder_of w b) e
     ∙ from_holds t (holder_of v b) (find_passes (λ block. holds_block t (holder_of v block)) (reverse v.held) b last)
 
-pub back_seen : (size : ℕ) (blocks : List (Option ℕ)) (held : List ℕ) (ws : Waits) (v : PoolBlocks) (t b place : ℕ) → seen size blocks held ws ≡ v → last_block v t ≡ Some b
-    → first_of ws.order (waiters ws) ≡ None → place ≡ b * size
-    → IsBack v t (seen size (set blocks b None) (others b held) ws) place
-back_seen size blocks held ws v t b place e last first at =
-    subst (λ w. last_block w t ≡ Some b → IsBack w t (seen size (set blocks b None) (others b held) ws) place) e
-    (λ was. record { block = b; last = was; first = first; place_is = at; state = refl }) last
+pub freed_seen : (size : ℕ) (blocks : List (Option ℕ)) (held : List ℕ) (ws : Waits) (v : PoolBlocks) (t b place : ℕ) → seen size blocks held ws ≡ v → last_block v t ≡ Some b
+    → place ≡ b * size
+    → IsFreed v t (seen size (set blocks b None) (others b held) ws) place
+freed_seen size blocks held ws v t b place e last at =
+    subst (λ w. last_block w t ≡ Some b → IsFreed w t (seen size (set blocks b None) (others b held) ws) place) e
+    (λ was. record { block = b; last = was; place_is = at; state = refl }) last
 
-pub passed_seen : (size : ℕ) (blocks : List (Option ℕ)) (held : List ℕ) (ws ws' : Waits) (v : PoolBlocks) (t b next place : ℕ) → seen size blocks held ws ≡ v → last_block v t ≡ Some b
-    → first_of ws.order (waiters ws) ≡ Some next → ws' ≡ without ws next → place ≡ b * size
-    → IsPassed v t (seen size (set blocks b (Some next)) (others b held ++ b ∷ []) ws') next place
-passed_seen size blocks held ws ws' v t b next place e last first left at =
-    subst (λ w. last_block w t ≡ Some b → IsPassed w t (seen size (set blocks b (Some next)) (others b held ++ b ∷ []) ws') next place) e
-    (λ was. record { block = b; last = was; first = first; place_is = at; state = ap (λ w. seen size (set blocks b (Some next)) (others b held ++ b ∷ []) w) left }) last
+pub handed_seen : (size : ℕ) (blocks : List (Option ℕ)) (held : List ℕ) (ws : Waits) (v : PoolBlocks) (t b next place : ℕ) → seen size blocks held ws ≡ v → last_block v t ≡ Some b
+    → place ≡ b * size
+    → IsHanded v t (seen size (set blocks b (Some next)) (others b held ++ b ∷ []) ws) next place
+handed_seen size blocks held ws v t b next place e last at =
+    subst (λ w. last_block w t ≡ Some b → IsHanded w t (seen size (set blocks b (Some next)) (others b held ++ b ∷ []) ws) next place) e
+    (λ was. record { block = b; last = was; place_is = at; state = refl }) last
+
+-- what a pool does with its own first waiter
+pub back_of : (v new : PoolBlocks) (t place : ℕ) → IsFreed v t new place → first_of v.waiters.order (waiters v.waiters) ≡ None → IsBack v t new place
+back_of v new t place freed first = record { block = freed.block; last = freed.last; first = first; place_is = freed.place_is; state = freed.state }
+
+pub passed_of : (v new : PoolBlocks) (t next place : ℕ) (ws : Waits) → IsHanded v t new next place → first_of v.waiters.order (waiters v.waiters) ≡ Some next → ws ≡ without v.waiters next
+    → IsPassed v t (record new { waiters = ws }) next place
+passed_of v new t next place ws handed first left = record { block = handed.block; last = handed.last; first = first; place_is = handed.place_is; state = ap (λ (p : PoolBlocks). record p { waiters = ws }) handed.state ∙ ap (λ w. record (with_block_held v handed.block next) { waiters = w }) left }
 
 -- two blocks have no byte in common
 pub apart_places : (size j k : ℕ) → j < k → j * size + size ≤ k * size

@@ -1,5 +1,5 @@
 -- What giving a block back does.
-use Rattle.std.specs.Prelude.{ℕ, ◌≡◌, Some, None, slice_set}
+use Rattle.std.specs.Prelude.{ℕ, ◌≡◌, Option, Some, None, slice_set}
 use Rattle.rt_plain.specs.kernel.Waiting.{first_of}
 use Rattle.susp_list.specs.Rows.{Waits, waiters}
 use Rattle.mem_pool.specs.Pools.{PoolBlocks, last_block, place_of, with_block_freed, with_block_held}
@@ -25,6 +25,26 @@ pub record IsBack (old : PoolBlocks) (t : ℕ) (new : PoolBlocks) (place : ℕ) 
   pub first : first_of old.waiters.order (waiters old.waiters) ≡ None
   pub place_is : place ≡ place_of old block
   pub state : new ≡ with_block_freed old block
+
+-- the block of a thread is handed to another one
+pub record IsHanded (old : PoolBlocks) (t : ℕ) (new : PoolBlocks) (next place : ℕ) : Type 0 where
+  pub block : ℕ
+  pub last : last_block old t ≡ Some block
+  pub place_is : place ≡ place_of old block
+  pub state : new ≡ with_block_held old block next
+
+-- the block of a thread is free
+pub record IsFreed (old : PoolBlocks) (t : ℕ) (new : PoolBlocks) (place : ℕ) : Type 0 where
+  pub block : ℕ
+  pub last : last_block old t ≡ Some block
+  pub place_is : place ≡ place_of old block
+  pub state : new ≡ with_block_freed old block
+
+-- each answer where it is known who is to have the block next, with its cause and what it leaves
+abbrev pub GivesBack : PoolBlocks → ℕ → Option ℕ → PoolBlocks → Freed → Type 0
+GivesBack old t next new NotHeld = (last_block old t ≡ None) × (new ≡ old)
+GivesBack old t next new (Passed other place) = (next ≡ Some other) × IsHanded old t new other place
+GivesBack old t next new (Back place) = (next ≡ None) × IsFreed old t new place
 
 -- each answer, with its cause and what it leaves
 abbrev pub Frees : PoolBlocks → ℕ → PoolBlocks → Freed → Type 0

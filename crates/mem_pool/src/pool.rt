@@ -1,7 +1,7 @@
-ghost use Rattle.std.specs.Prelude.{◌≡◌, ◌*◌, ◌<◌, ◌≤◌, None, [], count_by, length, option_map, replicate, IfOk};
+ghost use Rattle.std.specs.Prelude.{◌≡◌, ◌*◌, ◌<◌, ◌≤◌, None, [], count_by, length, option_map, replicate, IfOk, is_some};
 ghost use Rattle.std.specs.Borrow.{sem};
 ghost use Rattle.mem_pool.specs.Pools.{IsSound, after_alloc, free_block, holds_block, holder_of, is_free, last_block, place_of};
-ghost use Rattle.mem_pool.specs.Frees.{Frees};
+ghost use Rattle.mem_pool.specs.Frees.{Frees, GivesBack};
 ghost use Rattle.mem_pool.specs.LendsWaiters.{LendsWaiters};
 
 use crate::bits::Bits;
@@ -101,17 +101,32 @@ impl MemPool {
         ensures exactly { Frees self.old thread self.new result }
         ensures room { length self.new.waiters.rows ≡ length self.old.waiters.rows }
     {
+        let first = self.waiters.first();
+        let freed = self.give_back(thread, first);
+        if let Freed::Passed(waiter, _) = freed {
+            self.waiters.leave(waiter);
+        }
+        freed
+    }
+
+    /// Takes back the block that a thread got last of those that it holds, for a caller who knows who is to
+    /// have it next: `NotHeld` comes exactly where it holds none; else that thread holds it, got last, and
+    /// `Passed` comes; where there is no such thread, the block is free, and `Back` comes. Both tell the
+    /// block's place. It doesn't look at the waiters.
+    pub fn give_back(&mut self, thread: ThreadNo, next: Option<ThreadNo>) -> Freed
+        ensures exactly { GivesBack self.old thread next self.new result }
+        ensures waiters { self.new.waiters ≡ self.old.waiters }
+    {
         let Some(block) = self.last_block(thread) else {
             return Freed::NotHeld;
         };
         let place = place_of(block, self.size);
         self.held.retain(|other| *other != block);
-        let Some(next) = self.waiters.first() else {
+        let Some(next) = next else {
             self.holders[block as usize] = None;
             self.free.insert(block);
             return Freed::Back(place);
         };
-        self.waiters.leave(next);
         self.holders[block as usize] = Some(next);
         self.held.push_reserved(block);
         Freed::Passed(next, place)
@@ -123,6 +138,13 @@ impl MemPool {
         ensures value { result.now ≡ self.old.waiters }
     {
         &mut self.waiters
+    }
+
+    /// Whether a block is free.
+    pub fn has_free(&self) -> bool
+        ensures { result ≡ is_some (free_block self.now) }
+    {
+        self.free.lowest().is_some()
     }
 
     /// The number of free blocks.

@@ -127,7 +127,7 @@ in_chain g u x within h r =
     (chain_closed (length g.blockers) g [] (Some u) within (λ t e. let same : u ≡ t = cc in rw (← same) h) (length-unmet g) (λ y v k e. absurd (false≢true k)))
     (chain_first g u h) r
 
-graph_size : (o : Ownership) → length (graph_in o).blockers ≡ length o.members
+pub graph_size : (o : Ownership) → length (graph_in o).blockers ≡ length o.members
 graph_size o = length-map_range (blocker_in o) 0 (length o.members)
 
 -- whether the chain of a thread meets another one, by the tables
@@ -173,7 +173,7 @@ sum_more : (f : ℕ → ℕ) (xs : List ℕ) → ((x : ℕ) → 1 ≤ f x) → l
 sum_more f [] each = omega arith
 sum_more f (x ∷ xs) each = omega (arith, sum_by-cons f x xs, each x, sum_more f xs each)
 
-any_of : (p : ℕ → Bool) (us : List ℕ) (u : ℕ) → is_among us u ≡ true → p u ≡ true → list_any p us ≡ true
+pub any_of : (p : ℕ → Bool) (us : List ℕ) (u : ℕ) → is_among us u ≡ true → p u ≡ true → list_any p us ≡ true
 any_of p [] u h e = absurd (false≢true h)
 any_of p (v ∷ us) u h e =
     ⊎_elim (λ k. let same : v ≡ u = only v u (or_left (eqb v u) false k) in or_left (p v) (list_any p us) (ap p same ∙ e))
@@ -224,6 +224,13 @@ leads_start o u (Some t) h within to =
     let small : t < length (graph_in o).blockers = omega (arith, within t refl, graph_size o) in
     let low : u < length (graph_in o).blockers = omega (arith, graph_size o) in
     sym (reach_among (graph_in o) t u small low) ∙ to
+
+pub leads_back : (o : Ownership) (u : ℕ) (at : Option ℕ) → u < length o.members → ((t : ℕ) → at ≡ Some t → t < length o.members) → LeadsBy o u at → LeadsTo o u at
+leads_back o u None h within by = tt
+leads_back o u (Some t) h within by =
+    let small : t < length (graph_in o).blockers = omega (arith, within t refl, graph_size o) in
+    let low : u < length (graph_in o).blockers = omega (arith, graph_size o) in
+    reach_among (graph_in o) t u small low ∙ by
 
 -- the chain of a thread leads to itself, and to whom it waits for
 pub leads_here : (o : Ownership) (t : ℕ) → t < length o.members → LeadsTo o t (Some t)

@@ -126,7 +126,7 @@ differs_free o m s = record {
     more (Some k) u e =
         ⊎_elim (λ f. absurd (none-some u (sym (others_none m o.taken) ∙ sym (ap (owner_among (others m o.taken)) f) ∙ e))) (λ ne. inr (sym (others_other m k o.taken ne) ∙ e)) (cases_eq k m)
 
-awaits_row : (o : Ownership) (m t : ℕ) (w : Waiter) → row_in o m t ≡ Some w → awaited_in o t ≡ Some m
+pub awaits_row : (o : Ownership) (m t : ℕ) (w : Waiter) → row_in o m t ≡ Some w → awaited_in o t ≡ Some m
 awaits_row o m t w e = by_wait (wait_of o t) e
   where
     by_test : (v : MutexWait) (x : Waiter) (b : Bool) → (v.mutex == m) ≡ b → cond b (Some x) None ≡ Some w → Some v.mutex ≡ Some m

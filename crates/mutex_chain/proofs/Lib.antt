@@ -16,7 +16,11 @@ pub mod StrongLemmas
 pub mod TakeLemmas
 pub mod TouchLemmas
 pub mod UrgencyLemmas
-pub mod WalkLemmas
 pub mod RenewLemmas
 pub mod EditLemmas
 pub mod NoteLemmas
+pub mod StoredLemmas
+pub mod FirstsLemmas
+pub mod CostLemmas
+pub mod BoundLemmas
+pub mod EndingLemmas

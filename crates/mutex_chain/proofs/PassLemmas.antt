@@ -27,7 +27,7 @@ abbrev pub waits : Option Member → Bool
 waits None = false
 waits (Some m) = has_wait m.wait
 
-waits_there : (m : Option Member) → waits m ≡ true → is_there m ≡ true
+pub waits_there : (m : Option Member) → waits m ≡ true → is_there m ≡ true
 waits_there None h = h
 waits_there (Some m) h = refl
 

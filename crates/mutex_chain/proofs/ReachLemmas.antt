@@ -1,13 +1,12 @@
 -- Reach, thread by thread: a thread is in the reach of another one exactly where its chain meets that one.
-use Rattle.std.proofs.Common.{ℕ, ◌≡◌, ◌≢◌, ◌+◌, ◌<◌, ◌≤◌, zero, suc, List, [], ◌∷◌, length, map, Bool, true, false, cond, ◌||◌, eqb, Option, Some, None, refl, sym, ap, ◌∙◌, arith, ⊎_elim}
-use Rattle.std.specs.Prelude.{filter, fold, min}
+use Rattle.std.proofs.Common.{ℕ, ◌≡◌, ◌≢◌, ◌+◌, ◌<◌, ◌≤◌, zero, suc, List, [], ◌∷◌, length, Bool, true, false, cond, ◌||◌, eqb, Option, Some, None, refl, sym, ap, ◌∙◌, arith, ⊎_elim}
+use Rattle.std.specs.Prelude.{filter}
 use Rattle.std.specs.List.{range_with_len}
 use Rattle.std.proofs.lemmas.Bool.{eqb-true, eqb-false, ne_eqb, cases_lt}
 use Rattle.std.proofs.lemmas.List.{get_or_past}
 use Rattle.std.proofs.lemmas.List.Elements.{filter_agree}
 use Rattle.rt_plain.specs.kernel.State.{is_among}
 use Rattle.rt_plain.specs.kernel.Priority.{Graph, blocker_of, is_one_of, round_of, rounds_of, reach}
-use Rattle.mutex_chain.specs.Walks.{meets_on, meets}
 
 abbrev pub hits_on : (ℕ → Bool) → Option ℕ → Bool
 hits_on further None = false
@@ -150,39 +149,3 @@ reach_hits g t h = by_length (length g.blockers) refl
     by_length : (n : ℕ) → length g.blockers ≡ n → rounds_of n g (t ∷ []) ≡ filter (λ x. hits n (blocker_of g) (t ∷ []) x) (range_with_len 0 (length g.blockers))
     by_length zero e = absurd (omega arith)
     by_length (suc n) e = rounds_filter n g (t ∷ []) (λ v k. ap (λ b. b || false) (ne_eqb t v (λ s. omega arith)))
-
-pub hits_meets : (k : ℕ) (next : ℕ → Option ℕ) (t x : ℕ) → hits k next (t ∷ []) x ≡ eqb t x || meets k next x t
-hits_meets zero next t x = refl
-hits_meets (suc k) next t x = by_next (next x) (eqb t x) (λ v. hits_meets k next t v)
-  where
-    by_next : (o : Option ℕ) (a : Bool) → ((v : ℕ) → hits k next (t ∷ []) v ≡ eqb t v || meets k next v t)
-        → (a || false) || hits_on (λ v. hits k next (t ∷ []) v) o ≡ a || meets_on (λ v. meets k next v t) t o
-    by_next None true r = refl
-    by_next None false r = refl
-    by_next (Some v) true r = refl
-    by_next (Some v) false r = r v
-
--- the reach of a thread: itself, and each one whose chain meets it
-pub reach_is : (g : Graph) (t : ℕ) → t < length g.blockers
-    → reach g t ≡ filter (λ x. eqb t x || meets (length g.blockers) (blocker_of g) x t) (range_with_len 0 (length g.blockers))
-reach_is g t h =
-    reach_hits g t h
-    ∙ filter_agree (λ x. hits (length g.blockers) (blocker_of g) (t ∷ []) x) (λ x. eqb t x || meets (length g.blockers) (blocker_of g) x t)
-    (λ x. hits_meets (length g.blockers) (blocker_of g) t x) (range_with_len 0 (length g.blockers))
-
--- a thread itself changes nothing at a number that isn't above its urgency
-pub self_skip : (urgency : ℕ → ℕ) (t : ℕ) (m : ℕ → Bool) (xs : List ℕ) (a : ℕ) → a ≤ urgency t
-    → fold min a (map urgency (filter (λ x. eqb t x || m x) xs)) ≡ fold min a (map urgency (filter m xs))
-self_skip urgency t m [] a h = refl
-self_skip urgency t m (x ∷ xs) a h = by_tests (eqb t x) refl (m x) (λ b k. self_skip urgency t m xs b k)
-  where
-    by_tests : (c : Bool) → eqb t x ≡ c → (d : Bool) → ((b : ℕ) → b ≤ urgency t → fold min b (map urgency (filter (λ x. eqb t x || m x) xs)) ≡ fold min b (map urgency (filter m xs)))
-        → fold min a (map urgency (cond (c || d) (x ∷ filter (λ x. eqb t x || m x) xs) (filter (λ x. eqb t x || m x) xs)))
-        ≡ fold min a (map urgency (cond d (x ∷ filter m xs) (filter m xs)))
-    by_tests true e true r = r (min a (urgency x)) (omega arith)
-    by_tests true e false r =
-        let same : urgency x ≡ urgency t = ap urgency (sym (eqb-true t x e)) in
-        let less : min a (urgency x) ≡ a = omega arith in
-        ap (λ b. fold min b (map urgency (filter (λ x. eqb t x || m x) xs))) less ∙ r a h
-    by_tests false e true r = r (min a (urgency x)) (omega arith)
-    by_tests false e false r = r a h

@@ -1,6 +1,6 @@
 -- Current priorities computed anew along a chain of owners.
 use Rattle.std.proofs.Common.{ℕ, ◌≡◌, ◌≢◌, ◌+◌, ◌<◌, ◌≤◌, zero, suc, List, [], ◌∷◌, length, get_or, Bool, true, false, cond, eqb, Option, Some, None, refl, sym, ap, ◌∙◌, arith, ◌⊎◌, inl, inr, get_or-set_same, get_or-set_other, ⊎_elim}
-use Rattle.std.specs.Prelude.{slice_set, slice_index, slice_index_or, min, ◌-◌}
+use Rattle.std.specs.Prelude.{slice_set, slice_index, slice_index_or, ◌-◌}
 use Rattle.std.specs.List.{sum_by, filter_map}
 use Rattle.std.proofs.Math.ListN.{length-set}
 use Rattle.std.proofs.lemmas.Bool.{cases_eq, cases_lt, cases_Bool, eqb-true, eq-eqb, ne_eqb, false≢true}
@@ -8,7 +8,6 @@ use Rattle.std.proofs.lemmas.Option.{none-some}
 use Rattle.std.proofs.lemmas.List.{get_or_past}
 use Rattle.std.proofs.lemmas.List.Elements.{All-get_or}
 use Rattle.std.proofs.lemmas.List.Sums.{sum_by-cons, sum_by-set}
-use Rattle.rt_plain.specs.kernel.Priority.{is_one_of}
 use Rattle.rt_plain.specs.kernel.Ownership.{Ownership, Member, member_at, base_of, owned_in, member_urgency, cur_in}
 use Rattle.mutex_chain.specs.Owners.{IsSound, IsSmall, blocker_in}
 use Rattle.mutex_chain.specs.Walks.{curs_of}
@@ -16,7 +15,6 @@ use Rattle.mutex_chain.specs.Raising.{IsRaising}
 use Rattle.mutex_chain.specs.Renewing.{IsAhead, IsChainSet, AreAside, IsMarking, IsLeast, IsRenewing, DiffersAt, fresh}
 use Rattle.mutex_chain.proofs.ChangeLemmas.{fold_le}
 use Rattle.mutex_chain.proofs.CurLemmas.{blocker_within, cur_at, length-curs}
-use Rattle.mutex_chain.proofs.LawLemmas.{itself, only}
 use Rattle.mutex_chain.proofs.RaiseLemmas.{below_cur_in, owner_more}
 use Rattle.mutex_chain.proofs.StrongLemmas.{own_more, waiter_within}
 
@@ -312,47 +310,6 @@ differs_aside o p curs from s k at d = rw at (record {
 -- a mark lets one fewer be unmarked
 pub fewer_fresh : (numbers : List ℕ) (x : ℕ) → x < length numbers → slice_index numbers x ≢ 257 → sum_by fresh (slice_set numbers x 257) + 1 ≡ sum_by fresh numbers
 fewer_fresh numbers x h ne = omega (arith, sum_by-set fresh numbers x 257 0 h, ap (λ b. cond {A = ℕ} b 0 1) (ne_eqb (get_or numbers x 0) 257 ne))
-
--- whether a thread waits for this one
-pub waits_this : (o : Ownership) (x t : ℕ) → blocker_in o x ≡ Some t → is_one_of (t ∷ []) (blocker_in o x) ≡ true
-waits_this o x t e = ap (is_one_of (t ∷ [])) e ∙ itself t
-
-pub waits_for_this : (b : Option ℕ) (t : ℕ) → is_one_of (t ∷ []) b ≡ true → b ≡ Some t
-waits_for_this None t e = absurd (false≢true e)
-waits_for_this (Some y) t e = ap Some (sym (only t y e))
-
--- the least number so far, of the threads below one
-pub record IsLeastBelow (o : Ownership) (numbers : List ℕ) (t below least : ℕ) : Type 0 where
-  pub own : least ≤ member_urgency o t
-  pub edges : (x : ℕ) → x < below → blocker_in o x ≡ Some t → least ≤ slice_index numbers x
-  pub reached : (least ≡ member_urgency o t) ⊎ ((x : ℕ) × (blocker_in o x ≡ Some t) × (least ≡ slice_index numbers x))
-
-pub least_begins : (o : Ownership) (numbers : List ℕ) (t least : ℕ) → least ≡ member_urgency o t → IsLeastBelow o numbers t 0 least
-least_begins o numbers t least e = record { own = omega arith; edges = λ x h f. absurd (omega arith); reached = inl e }
-
-pub least_other : (o : Ownership) (numbers : List ℕ) (t below least : ℕ) → is_one_of (t ∷ []) (blocker_in o below) ≡ false → IsLeastBelow o numbers t below least → IsLeastBelow o numbers t (below + 1) least
-least_other o numbers t below least none l = record { own = l.own; edges = λ x h f. edges x h f (cases_eq x below); reached = l.reached }
-  where
-    edges : (x : ℕ) → x < below + 1 → blocker_in o x ≡ Some t → (x ≡ below) ⊎ (x ≢ below) → least ≤ slice_index numbers x
-    edges x h f (inl e) = absurd (false≢true (sym none ∙ sym (ap (λ y. is_one_of (t ∷ []) (blocker_in o y)) e) ∙ waits_this o x t f))
-    edges x h f (inr ne) = l.edges x (omega arith) f
-
-pub least_waiter : (o : Ownership) (numbers : List ℕ) (t below least : ℕ) → is_one_of (t ∷ []) (blocker_in o below) ≡ true → IsLeastBelow o numbers t below least
-    → IsLeastBelow o numbers t (below + 1) (min least (slice_index numbers below))
-least_waiter o numbers t below least waits l = record { own = omega (arith, l.own); edges = λ x h f. edges x h f (cases_eq x below); reached = reached (cases_lt (slice_index numbers below) least) l.reached }
-  where
-    edges : (x : ℕ) → x < below + 1 → blocker_in o x ≡ Some t → (x ≡ below) ⊎ (x ≢ below) → min least (slice_index numbers below) ≤ slice_index numbers x
-    edges x h f (inl e) = let same : slice_index numbers x ≡ slice_index numbers below = ap (slice_index numbers) e in omega arith
-    edges x h f (inr ne) = omega (arith, l.edges x (omega arith) f)
-
-    reached : (slice_index numbers below < least) ⊎ (least ≤ slice_index numbers below) → (least ≡ member_urgency o t) ⊎ ((x : ℕ) × (blocker_in o x ≡ Some t) × (least ≡ slice_index numbers x))
-        → (min least (slice_index numbers below) ≡ member_urgency o t) ⊎ ((x : ℕ) × (blocker_in o x ≡ Some t) × (min least (slice_index numbers below) ≡ slice_index numbers x))
-    reached (inl k) w = inr (below, waits_for_this (blocker_in o below) t waits, omega arith)
-    reached (inr k) (inl e) = inl (omega arith)
-    reached (inr k) (inr w) = let is : least ≡ slice_index numbers w.0 = w.2 in inr (w.0, w.1, omega arith)
-
-pub least_ends : (o : Ownership) (numbers : List ℕ) (t below least : ℕ) → length o.members ≤ below → IsLeastBelow o numbers t below least → IsLeast o numbers t least
-least_ends o numbers t below least h l = record { own = l.own; edges = λ x f. let k : x < length o.members = waiter_within o x t f in l.edges x (omega arith) f; reached = l.reached }
 
 -- the numbers that no walk marked are right already
 pub marking_rest : (o : Ownership) (olds numbers : List ℕ) (from : Option ℕ) (count : ℕ) (at : Option ℕ) → AreAside o olds from → IsMarking o olds numbers from count at

@@ -1,20 +1,21 @@
 -- Which edits make threads more urgent, along one chain of owners.
-use Rattle.std.proofs.Common.{ℕ, ◌≡◌, ◌≢◌, ◌<◌, ◌≤◌, List, [], ◌∷◌, length, map, Bool, true, false, cond, ◌||◌, eqb, Option, Some, None, refl, sym, ap, ◌∙◌, arith, ◌⊎◌, inl, inr, get_or-set_same, get_or-set_other, ⊎_elim}
-use Rattle.std.specs.Prelude.{slice_set, slice_index, slice_index_or, min, fold, filter, ◌==◌}
+use Rattle.std.proofs.Common.{ℕ, ◌≡◌, ◌≢◌, ◌<◌, ◌≤◌, List, [], ◌∷◌, length, map, Bool, true, false, cond, ◌||◌, eqb, Option, Some, None, refl, sym, ap, subst, ◌∙◌, arith, ◌⊎◌, inl, inr, get_or-set_same, get_or-set_other, ⊎_elim}
+use Rattle.std.specs.Prelude.{slice_set, slice_index, slice_index_or, replicate, min, fold, filter, ◌==◌}
 use Rattle.std.specs.List.{filter_map, cons_option, find}
 use Rattle.std.specs.Option.{option_map, option_and_then, option_to_list}
 use Rattle.std.proofs.Math.ListN.{length-set}
 use Rattle.std.proofs.lemmas.Bool.{cases_eq, cases_lt, eqb-true, ne_eqb, eq-eqb, false≢true, or_left, or_right}
 use Rattle.std.proofs.lemmas.Option.{none-some}
-use Rattle.std.proofs.lemmas.List.{get_or_past}
+use Rattle.std.proofs.lemmas.List.{get_or_past, get_or-replicate, length-replicate}
 use Rattle.rt_plain.specs.kernel.State.{is_among}
 use Rattle.rt_plain.specs.kernel.Priority.{urgency_of, reach}
-use Rattle.rt_plain.specs.kernel.Ownership.{Ownership, Member, Taken, member_at, base_of, is_there, awaited_in, owner_in, owned_in, member_urgency, graph_in, cur_in, with_base, with_wait, wait_edit, base_edit, ceiling_edit}
-use Rattle.mutex_chain.specs.Owners.{IsSound, has_thread, blocker_in, ceiling_at}
+use Rattle.rt_plain.specs.kernel.Ownership.{Ownership, Member, Taken, member_at, base_of, is_there, awaited_in, owner_in, owned_in, member_urgency, graph_in, cur_in, with_member, with_base, with_wait, wait_edit, base_edit, ceiling_edit}
+use Rattle.mutex_chain.specs.Owners.{IsSound, has_thread, has_mutex, is_ceiling, blocker_in, ceiling_at}
 use Rattle.mutex_chain.specs.Walks.{curs_of}
 use Rattle.mutex_chain.specs.Raising.{IsRaising, Strengthens}
 use Rattle.mutex_chain.proofs.CurLemmas.{awaited_by, cur_at, length-curs, graph_urgency, owner_within, blocker_within}
 use Rattle.mutex_chain.proofs.ChangeLemmas.{fold_le, thread_within}
+use Rattle.mutex_chain.proofs.OwnedLemmas.{based_awaits}
 use Rattle.mutex_chain.proofs.RaiseLemmas.{below_cur_in, owner_more}
 use Rattle.mutex_chain.proofs.TouchLemmas.{touches_ceiling}
 
@@ -150,96 +151,111 @@ fold_min a b (x ∷ xs) = let swap : min (min a b) x ≡ min (min a x) b = omega
 fold_from : (a b : ℕ) (xs : List ℕ) → b ≤ a → fold min b xs ≡ min (fold min a xs) b
 fold_from a b xs h = let low : b ≡ min a b = omega arith in ap (λ c. fold min c xs) low ∙ fold_min a b xs
 
--- a thread gets a base that is at least as urgent
-base_strengthens : (o : Ownership) (t base : ℕ) → has_thread o t ≡ true → base ≤ base_of (member_at o t) → Strengthens o (base_edit t base o) (Some t) base
-base_strengthens o t base there less = record {
-  size = sym (length-set o.members t (option_map (with_base base) (member_at o t)));
+-- a thread gets a row with a base that is at least as urgent, and waits as before
+row_strengthens : (o : Ownership) (t base : ℕ) (row : Option Member) → t < length o.members → awaited_by row ≡ awaited_by (member_at o t) → base_of row ≡ base → base ≤ base_of (member_at o t)
+    → Strengthens o (with_member o t row) (Some t) base
+row_strengthens o t base row within awaits based less = record {
+  size = sym (length-set o.members t row);
   kept = λ x y e. same_blocker x ∙ e;
   more = λ x y e. inl (sym (same_blocker x) ∙ e);
   lower = λ u h. lower u (cases_eq u t);
   itself = λ u h. itself u (cases_eq u t);
-  reached = λ u e. let same : t ≡ u = cc in rw (← same) (thread_within o t there, inl (omega (arith, here_urgency)));
+  reached = λ u e. let same : t ≡ u = cc in rw (← same) (within, inl (omega (arith, here_urgency)));
 }
   where
-    here : member_at (base_edit t base o) t ≡ option_map (with_base base) (member_at o t)
-    here = get_or-set_same o.members t (option_map (with_base base) (member_at o t)) None (thread_within o t there)
+    here : member_at (with_member o t row) t ≡ row
+    here = get_or-set_same o.members t row None within
 
-    elsewhere : (x : ℕ) → x ≢ t → member_at (base_edit t base o) x ≡ member_at o x
-    elsewhere x ne = get_or-set_other o.members t x (option_map (with_base base) (member_at o t)) None ne
+    elsewhere : (x : ℕ) → x ≢ t → member_at (with_member o t row) x ≡ member_at o x
+    elsewhere x ne = get_or-set_other o.members t x row None ne
 
-    awaits_same : (m : Option Member) → awaited_by (option_map (with_base base) m) ≡ awaited_by m
-    awaits_same None = refl
-    awaits_same (Some m) = refl
-
-    same_blocker : (x : ℕ) → blocker_in (base_edit t base o) x ≡ blocker_in o x
+    same_blocker : (x : ℕ) → blocker_in (with_member o t row) x ≡ blocker_in o x
     same_blocker x = ap (option_and_then (owner_in o)) (by_place (cases_eq x t))
       where
-        by_place : (x ≡ t) ⊎ (x ≢ t) → awaited_by (member_at (base_edit t base o) x) ≡ awaited_by (member_at o x)
-        by_place (inl e) = ap (λ v. awaited_by (member_at (base_edit t base o) v)) e ∙ ap awaited_by here ∙ awaits_same (member_at o t) ∙ sym (ap (λ v. awaited_by (member_at o v)) e)
+        by_place : (x ≡ t) ⊎ (x ≢ t) → awaited_by (member_at (with_member o t row) x) ≡ awaited_by (member_at o x)
+        by_place (inl e) = ap (λ v. awaited_by (member_at (with_member o t row) v)) e ∙ ap awaited_by here ∙ awaits ∙ sym (ap (λ v. awaited_by (member_at o v)) e)
         by_place (inr ne) = ap awaited_by (elsewhere x ne)
 
-    base_is : (m : Option Member) → is_there m ≡ true → base_of (option_map (with_base base) m) ≡ base
-    base_is None h = absurd (false≢true h)
-    base_is (Some m) h = refl
-
-    here_urgency : member_urgency (base_edit t base o) t ≡ min (member_urgency o t) base
+    here_urgency : member_urgency (with_member o t row) t ≡ min (member_urgency o t) base
     here_urgency =
-        ap (λ b. fold min b (filter_map (λ mutex. slice_index_or o.ceilings mutex None) (owned_in o t))) (ap base_of here ∙ base_is (member_at o t) there)
+        ap (λ b. fold min b (filter_map (λ mutex. slice_index_or o.ceilings mutex None) (owned_in o t))) (ap base_of here ∙ based)
         ∙ fold_from (base_of (member_at o t)) base (filter_map (λ mutex. slice_index_or o.ceilings mutex None) (owned_in o t)) less
 
-    other_urgency : (u : ℕ) → u ≢ t → member_urgency (base_edit t base o) u ≡ member_urgency o u
+    other_urgency : (u : ℕ) → u ≢ t → member_urgency (with_member o t row) u ≡ member_urgency o u
     other_urgency u ne = ap (λ m. fold min (base_of m) (filter_map (λ mutex. slice_index_or o.ceilings mutex None) (owned_in o u))) (elsewhere u ne)
 
-    at_t : (u : ℕ) → u ≡ t → member_urgency (base_edit t base o) u ≡ min (member_urgency o u) base
-    at_t u e = ap (member_urgency (base_edit t base o)) e ∙ here_urgency ∙ sym (ap (λ v. min (member_urgency o v) base) e)
+    at_t : (u : ℕ) → u ≡ t → member_urgency (with_member o t row) u ≡ min (member_urgency o u) base
+    at_t u e = ap (member_urgency (with_member o t row)) e ∙ here_urgency ∙ sym (ap (λ v. min (member_urgency o v) base) e)
 
-    lower : (u : ℕ) → (u ≡ t) ⊎ (u ≢ t) → member_urgency (base_edit t base o) u ≤ member_urgency o u
+    lower : (u : ℕ) → (u ≡ t) ⊎ (u ≢ t) → member_urgency (with_member o t row) u ≤ member_urgency o u
     lower u (inl e) = omega (arith, at_t u e)
     lower u (inr ne) = omega (arith, other_urgency u ne)
 
-    itself : (u : ℕ) → (u ≡ t) ⊎ (u ≢ t) → (member_urgency o u ≤ member_urgency (base_edit t base o) u) ⊎ ((Some t ≡ Some u) × (base ≤ member_urgency (base_edit t base o) u))
+    itself : (u : ℕ) → (u ≡ t) ⊎ (u ≢ t) → (member_urgency o u ≤ member_urgency (with_member o t row) u) ⊎ ((Some t ≡ Some u) × (base ≤ member_urgency (with_member o t row) u))
     itself u (inl e) = by_size (cases_lt base (member_urgency o u))
       where
-        by_size : (base < member_urgency o u) ⊎ (member_urgency o u ≤ base) → (member_urgency o u ≤ member_urgency (base_edit t base o) u) ⊎ ((Some t ≡ Some u) × (base ≤ member_urgency (base_edit t base o) u))
+        by_size : (base < member_urgency o u) ⊎ (member_urgency o u ≤ base) → (member_urgency o u ≤ member_urgency (with_member o t row) u) ⊎ ((Some t ≡ Some u) × (base ≤ member_urgency (with_member o t row) u))
         by_size (inl h) = inr (ap Some (sym e), omega (arith, at_t u e))
         by_size (inr h) = inl (omega (arith, at_t u e))
     itself u (inr ne) = inl (omega (arith, other_urgency u ne))
 
+pub member_raises : (o p : Ownership) (curs : List ℕ) (t base : ℕ) (row : Option Member) → IsSound o → IsSound p → curs ≡ curs_of o → p ≡ with_member o t row → t < length o.members
+    → awaited_by row ≡ awaited_by (member_at o t) → base_of row ≡ base → base ≤ base_of (member_at o t) → IsRaising p curs (Some t) base
+member_raises o p curs t base row s k now e within awaits based less =
+    let sound : IsSound (with_member o t row) = rw (← e) k in
+    rw e (raises o (with_member o t row) curs (Some t) base s sound now (row_strengthens o t base row within awaits based less))
+
 pub base_raises : (o p : Ownership) (curs : List ℕ) (t base : ℕ) → IsSound o → IsSound p → curs ≡ curs_of o → p ≡ base_edit t base o → has_thread o t ≡ true → base ≤ base_of (member_at o t)
     → IsRaising p curs (Some t) base
 base_raises o p curs t base s k now e there less =
-    let sound : IsSound (base_edit t base o) = rw (← e) k in
-    rw e (raises o (base_edit t base o) curs (Some t) base s sound now (base_strengthens o t base there less))
-
--- two tables of ceilings are the same, but that one mutex has this ceiling in the first and that one in the second
-abbrev Differ : (ℕ → Option ℕ) → (ℕ → Option ℕ) → ℕ → ℕ → Type 0
-Differ c d k old = (m : ℕ) → (c m ≡ d m) ⊎ ((c m ≡ Some k) × (d m ≡ Some old))
-
-lower_all : (c d : ℕ → Option ℕ) (k old : ℕ) (ms : List ℕ) (a b : ℕ) → Differ c d k old → k ≤ old → a ≤ b → fold min a (filter_map c ms) ≤ fold min b (filter_map d ms)
-lower_all c d k old [] a b differ h less = less
-lower_all c d k old (m ∷ ms) a b differ h less = by_case (c m) (d m) (differ m) (λ x y e. lower_all c d k old ms x y differ h e)
+    member_raises o p curs t base (option_map (with_base base) (member_at o t)) s k now e (thread_within o t there) (based_awaits base (member_at o t)) (base_is (member_at o t) there) less
   where
-    by_case : (p q : Option ℕ) → (p ≡ q) ⊎ ((p ≡ Some k) × (q ≡ Some old)) → ((x y : ℕ) → x ≤ y → fold min x (filter_map c ms) ≤ fold min y (filter_map d ms))
+    base_is : (m : Option Member) → is_there m ≡ true → base_of (option_map (with_base base) m) ≡ base
+    base_is None h = absurd (false≢true h)
+    base_is (Some m) h = refl
+
+-- a number that isn't less urgent than a ceiling, if there is one
+abbrev AtLeast : ℕ → Option ℕ → Type 0
+AtLeast k None = Unit {0}
+AtLeast k (Some v) = k ≤ v
+
+-- two tables of ceilings are the same, but that one mutex has this ceiling in the first, and none or a less urgent one in the second
+abbrev Differ : (ℕ → Option ℕ) → (ℕ → Option ℕ) → ℕ → Type 0
+Differ c d k = (m : ℕ) → (c m ≡ d m) ⊎ ((c m ≡ Some k) × AtLeast k (d m))
+
+lower_all : (c d : ℕ → Option ℕ) (k : ℕ) (ms : List ℕ) (a b : ℕ) → Differ c d k → a ≤ b → fold min a (filter_map c ms) ≤ fold min b (filter_map d ms)
+lower_all c d k [] a b differ less = less
+lower_all c d k (m ∷ ms) a b differ less = by_case (c m) (d m) (differ m) (λ x y e. lower_all c d k ms x y differ e)
+  where
+    by_case : (p q : Option ℕ) → (p ≡ q) ⊎ ((p ≡ Some k) × AtLeast k q) → ((x y : ℕ) → x ≤ y → fold min x (filter_map c ms) ≤ fold min y (filter_map d ms))
         → fold min a (cons_option p (filter_map c ms)) ≤ fold min b (cons_option q (filter_map d ms))
     by_case p q (inl e) again = rw e (by_row q)
       where
         by_row : (r : Option ℕ) → fold min a (cons_option r (filter_map c ms)) ≤ fold min b (cons_option r (filter_map d ms))
         by_row None = again a b less
         by_row (Some v) = again (min a v) (min b v) (omega arith)
-    by_case p q (inr w) again = rw (w.0, w.1) (again (min a k) (min b old) (omega arith))
+    by_case p q (inr w) again = rw w.0 (by_old q w.1)
+      where
+        by_old : (r : Option ℕ) → AtLeast k r → fold min (min a k) (filter_map c ms) ≤ fold min b (cons_option r (filter_map d ms))
+        by_old None h = again (min a k) b (omega arith)
+        by_old (Some v) h = again (min a k) (min b v) (omega (arith, h))
 
-lower_most : (c d : ℕ → Option ℕ) (k old : ℕ) (ms : List ℕ) (a b : ℕ) → Differ c d k old → k ≤ old → min b k ≤ a → min (fold min b (filter_map d ms)) k ≤ fold min a (filter_map c ms)
-lower_most c d k old [] a b differ h less = less
-lower_most c d k old (m ∷ ms) a b differ h less = by_case (c m) (d m) (differ m) (λ x y e. lower_most c d k old ms x y differ h e)
+lower_most : (c d : ℕ → Option ℕ) (k : ℕ) (ms : List ℕ) (a b : ℕ) → Differ c d k → min b k ≤ a → min (fold min b (filter_map d ms)) k ≤ fold min a (filter_map c ms)
+lower_most c d k [] a b differ less = less
+lower_most c d k (m ∷ ms) a b differ less = by_case (c m) (d m) (differ m) (λ x y e. lower_most c d k ms x y differ e)
   where
-    by_case : (p q : Option ℕ) → (p ≡ q) ⊎ ((p ≡ Some k) × (q ≡ Some old)) → ((x y : ℕ) → min y k ≤ x → min (fold min y (filter_map d ms)) k ≤ fold min x (filter_map c ms))
+    by_case : (p q : Option ℕ) → (p ≡ q) ⊎ ((p ≡ Some k) × AtLeast k q) → ((x y : ℕ) → min y k ≤ x → min (fold min y (filter_map d ms)) k ≤ fold min x (filter_map c ms))
         → min (fold min b (cons_option q (filter_map d ms))) k ≤ fold min a (cons_option p (filter_map c ms))
     by_case p q (inl e) again = rw e (by_row q)
       where
         by_row : (r : Option ℕ) → min (fold min b (cons_option r (filter_map d ms))) k ≤ fold min a (cons_option r (filter_map c ms))
         by_row None = again a b less
         by_row (Some v) = again (min a v) (min b v) (omega arith)
-    by_case p q (inr w) again = rw (w.0, w.1) (again (min a k) (min b old) (omega arith))
+    by_case p q (inr w) again = rw w.0 (by_old q w.1)
+      where
+        by_old : (r : Option ℕ) → AtLeast k r → min (fold min b (cons_option r (filter_map d ms))) k ≤ fold min (min a k) (filter_map c ms)
+        by_old None h = again (min a k) b (omega arith)
+        by_old (Some v) h = again (min a k) (min b v) (omega (arith, h))
 
 least_of : (c : ℕ → Option ℕ) (ms : List ℕ) (m k a : ℕ) → is_among ms m ≡ true → c m ≡ Some k → fold min a (filter_map c ms) ≤ k
 least_of c [] m k a h e = absurd (false≢true h)
@@ -275,12 +291,12 @@ owns_it (k ∷ ks) m t e = by_test (k.mutex == m) refl e (owns_it ks m t)
     by_test false f at again = keep (k.owner == t) (again at)
 
 -- a mutex gets a ceiling that is at least as urgent
-ceiling_strengthens : (o : Ownership) (mutex ceiling old : ℕ) → IsSound o → ceiling_at o mutex ≡ Some old → ceiling ≤ old → Strengthens o (ceiling_edit mutex ceiling o) (owner_in o mutex) ceiling
-ceiling_strengthens o mutex ceiling old s at less = record {
+ceiling_strengthens : (o : Ownership) (mutex ceiling : ℕ) → IsSound o → mutex < length o.ceilings → AtLeast ceiling (ceiling_at o mutex) → Strengthens o (ceiling_edit mutex ceiling o) (owner_in o mutex) ceiling
+ceiling_strengthens o mutex ceiling s inside less = record {
   size = refl;
   kept = λ x y e. e;
   more = λ x y e. inl e;
-  lower = λ t h. lower_all news olds ceiling old (owned_in o t) (base_of (member_at o t)) (base_of (member_at o t)) differ less (omega arith);
+  lower = λ t h. lower_all news olds ceiling (owned_in o t) (base_of (member_at o t)) (base_of (member_at o t)) differ (omega arith);
   itself = λ t h. itself t (owner_in o mutex) refl;
   reached = λ t e. (owner_within o mutex t s e, inl (least_of news (owned_in o t) mutex ceiling (base_of (member_at o t)) (owns_it o.taken mutex t e) here));
 }
@@ -291,24 +307,21 @@ ceiling_strengthens o mutex ceiling old s at less = record {
     olds : ℕ → Option ℕ
     olds m = slice_index_or o.ceilings m None
 
-    inside : mutex < length o.ceilings
-    inside = ⊎_elim (λ low. low) (λ high. absurd (none-some old (sym (get_or_past o.ceilings mutex None high) ∙ at))) (cases_lt mutex (length o.ceilings))
-
     here : news mutex ≡ Some ceiling
     here = get_or-set_same o.ceilings mutex (Some ceiling) None inside
 
-    differ : Differ news olds ceiling old
+    differ : Differ news olds ceiling
     differ m = by_place (cases_eq m mutex)
       where
-        by_place : (m ≡ mutex) ⊎ (m ≢ mutex) → (news m ≡ olds m) ⊎ ((news m ≡ Some ceiling) × (olds m ≡ Some old))
-        by_place (inl e) = inr (ap news e ∙ here, ap olds e ∙ at)
+        by_place : (m ≡ mutex) ⊎ (m ≢ mutex) → (news m ≡ olds m) ⊎ ((news m ≡ Some ceiling) × AtLeast ceiling (olds m))
+        by_place (inl e) = inr (ap news e ∙ here, subst (λ i. AtLeast ceiling (olds i)) (sym e) less)
         by_place (inr ne) = inl (get_or-set_other o.ceilings mutex m (Some ceiling) None ne)
 
     itself : (t : ℕ) (owner : Option ℕ) → owner_in o mutex ≡ owner → (member_urgency o t ≤ member_urgency (ceiling_edit mutex ceiling o) t) ⊎ ((owner ≡ Some t) × (ceiling ≤ member_urgency (ceiling_edit mutex ceiling o) t))
     itself t owner e = by_owner owner (λ f. (touches_ceiling mutex ceiling o s.once).urgencies t (ap (λ r. is_among (option_to_list r) t) e ∙ f))
       where
         most : min (member_urgency o t) ceiling ≤ member_urgency (ceiling_edit mutex ceiling o) t
-        most = lower_most news olds ceiling old (owned_in o t) (base_of (member_at o t)) (base_of (member_at o t)) differ less (omega arith)
+        most = lower_most news olds ceiling (owned_in o t) (base_of (member_at o t)) (base_of (member_at o t)) differ (omega arith)
 
         by_owner : (r : Option ℕ) → (is_among (option_to_list r) t ≡ false → member_urgency o t ≡ member_urgency (ceiling_edit mutex ceiling o) t)
             → (member_urgency o t ≤ member_urgency (ceiling_edit mutex ceiling o) t) ⊎ ((r ≡ Some t) × (ceiling ≤ member_urgency (ceiling_edit mutex ceiling o) t))
@@ -323,9 +336,66 @@ ceiling_strengthens o mutex ceiling old s at less = record {
                 let e : member_urgency o t ≡ member_urgency (ceiling_edit mutex ceiling o) t = same (ap (λ b. b || false) (ne_eqb u t ne)) in
                 inl (omega arith)
 
+ceiling_raised : (o p : Ownership) (curs : List ℕ) (from : Option ℕ) (mutex ceiling : ℕ) → IsSound o → IsSound p → curs ≡ curs_of o → p ≡ ceiling_edit mutex ceiling o → from ≡ owner_in p mutex
+    → mutex < length o.ceilings → AtLeast ceiling (ceiling_at o mutex) → IsRaising p curs from ceiling
+ceiling_raised o p curs from mutex ceiling s k now e owner inside less =
+    let sound : IsSound (ceiling_edit mutex ceiling o) = rw (← e) k in
+    let from_is : from ≡ owner_in o mutex = owner ∙ ap (λ q. owner_in q mutex) e in
+    rw (e, from_is) (raises o (ceiling_edit mutex ceiling o) curs (owner_in o mutex) ceiling s sound now (ceiling_strengthens o mutex ceiling s inside less))
+
 pub ceiling_raises : (o p : Ownership) (curs : List ℕ) (from : Option ℕ) (mutex ceiling old : ℕ) → IsSound o → IsSound p → curs ≡ curs_of o → p ≡ ceiling_edit mutex ceiling o → from ≡ owner_in p mutex
     → ceiling_at o mutex ≡ Some old → ceiling ≤ old → IsRaising p curs from ceiling
 ceiling_raises o p curs from mutex ceiling old s k now e owner at less =
-    let sound : IsSound (ceiling_edit mutex ceiling o) = rw (← e) k in
-    let from_is : from ≡ owner_in o mutex = owner ∙ ap (λ q. owner_in q mutex) e in
-    rw (e, from_is) (raises o (ceiling_edit mutex ceiling o) curs (owner_in o mutex) ceiling s sound now (ceiling_strengthens o mutex ceiling old s at less))
+    ceiling_raised o p curs from mutex ceiling s k now e owner inside (subst (AtLeast ceiling) (sym at) less)
+  where
+    inside : mutex < length o.ceilings
+    inside = ⊎_elim (λ low. low) (λ high. absurd (none-some old (sym (get_or_past o.ceilings mutex None high) ∙ at))) (cases_lt mutex (length o.ceilings))
+
+-- a mutex comes
+pub ceiling_comes : (o p : Ownership) (curs : List ℕ) (from : Option ℕ) (mutex ceiling : ℕ) → IsSound o → IsSound p → curs ≡ curs_of o → p ≡ ceiling_edit mutex ceiling o → from ≡ owner_in p mutex
+    → mutex < length o.ceilings → has_mutex o mutex ≡ false → IsRaising p curs from ceiling
+ceiling_comes o p curs from mutex ceiling s k now e owner inside absent =
+    ceiling_raised o p curs from mutex ceiling s k now e owner inside (by_row (ceiling_at o mutex) absent)
+  where
+    by_row : (r : Option ℕ) → is_ceiling r ≡ false → AtLeast ceiling r
+    by_row None f = tt
+    by_row (Some v) f = absurd (false≢true (sym f))
+
+-- with no thread all have the least urgent number
+pub empty_raises : (threads mutexes : ℕ) (o : Ownership) → IsSound o → o ≡ record { members = replicate threads None; ceilings = replicate mutexes None; taken = [] } → IsRaising o (replicate threads 256) None 256
+empty_raises threads mutexes o s e = record {
+  places = length-replicate threads 256 ∙ sym size;
+  high = λ t h. omega (arith, number t h, cur_in_small t h);
+  low = λ t f. absurd (none-some t f);
+  own = λ t h. inl (omega (arith, number t h, urgency t h));
+  edges = λ x t f. absurd (none-some t (sym (nobody x) ∙ f));
+}
+  where
+    size : length o.members ≡ threads
+    size = ap (λ (q : Ownership). length q.members) e ∙ length-replicate threads None
+
+    number : (t : ℕ) → t < length o.members → slice_index (replicate threads 256) t ≡ 256
+    number t h = get_or-replicate threads t 256 0 (omega (arith, size))
+
+    urgency : (t : ℕ) → t < length o.members → member_urgency o t ≡ 256
+    urgency t h = ap (λ q. member_urgency q t) e ∙ ap base_of (get_or-replicate threads t None None (omega (arith, size)))
+
+    cur_in_small : (t : ℕ) → t < length o.members → cur_in o t ≤ 256
+    cur_in_small t h = omega (arith, own_more o t h, urgency t h)
+
+    nobody : (x : ℕ) → blocker_in o x ≡ None
+    nobody x = by_wait (awaited_in o x)
+      where
+        none : (m : ℕ) → owner_in o m ≡ None
+        none m = ap (λ q. owner_in q m) e
+
+        by_wait : (r : Option ℕ) → option_and_then (owner_in o) r ≡ None
+        by_wait None = refl
+        by_wait (Some m) = none m
+
+pub empty_awaits : (threads mutexes : ℕ) (o : Ownership) (t : ℕ) → o ≡ record { members = replicate threads None; ceilings = replicate mutexes None; taken = [] } → awaited_in o t ≡ None
+empty_awaits threads mutexes o t e = ap (λ q. awaited_in q t) e ∙ ap awaited_by (by_size (cases_lt t threads))
+  where
+    by_size : (t < threads) ⊎ (threads ≤ t) → slice_index_or (replicate {A = Option Member} threads None) t None ≡ None
+    by_size (inl h) = get_or-replicate threads t None None h
+    by_size (inr h) = get_or_past (replicate threads None) t None (omega (arith, length-replicate {A = Option Member} threads None))

@@ -152,7 +152,7 @@ touches_take t m o = by_row (taken_of o m) refl
     by_row (Some h) e = by_tests h (h.owner == t) (nat_lt h.hold 255)
 
 -- the mutexes of another thread than the owner of a mutex, which no more is owned
-free_owned : (m x : ℕ) (h : Taken) (hs : List Taken) → AllPairs Apart hs → find (λ h. h.mutex == m) hs ≡ Some h → h.owner ≢ x
+pub free_owned : (m x : ℕ) (h : Taken) (hs : List Taken) → AllPairs Apart hs → find (λ h. h.mutex == m) hs ≡ Some h → h.owner ≢ x
     → map (λ h. h.mutex) (filter (λ h. h.owner == x) (others m hs)) ≡ map (λ h. h.mutex) (filter (λ h. h.owner == x) hs)
 free_owned m x h [] p e ne = refl
 free_owned m x h (k ∷ ks) p e ne = by_test (k.mutex == m) refl e (free_owned m x h ks (apart_tail k ks p))
@@ -178,7 +178,7 @@ among_first : (t : ℕ) (ts : List ℕ) → is_among (t ∷ ts) t ≡ true
 among_first t ts = ap (λ b. b || is_among ts t) (eq-eqb t t refl)
 
 -- a mutex passes to a waiter, or to nobody
-touches_pass : (t m : ℕ) (first : Option ℕ) (h : Taken) (o : Ownership) → AllPairs Apart o.taken → taken_of o m ≡ Some h → h.owner ≡ t
+pub touches_pass : (t m : ℕ) (first : Option ℕ) (h : Taken) (o : Ownership) → AllPairs Apart o.taken → taken_of o m ≡ Some h → h.owner ≡ t
     → Touches (t ∷ option_to_list first) o (pass_edit_to m first o)
 touches_pass t m None h o once at owner = record {
   size = refl;

@@ -1,8 +1,8 @@
 -- What the calls of the graph answer, and the lists that they fill.
-use Rattle.std.specs.Prelude.{ℕ, suc, [], ◌∷◌, ◌++◌, ◌≡◌, ◌≢◌, ◌-◌, Bool, true, false, not, ◌&&◌, List, length, Option, Some, None, nat_lt, if◌then◌else◌, ◌==◌}
+use Rattle.std.specs.Prelude.{ℕ, [], ◌∷◌, ◌++◌, ◌≡◌, ◌≢◌, ◌-◌, Bool, true, false, not, ◌&&◌, List, length, Option, Some, None, nat_lt, if◌then◌else◌, ◌==◌}
 use Rattle.rt_base.specs.declared.codes.WaitOrder.{WaitOrder}
 use Rattle.rt_plain.specs.kernel.Waiting.{Waiter, stands_before}
-use Rattle.rt_plain.specs.kernel.Ownership.{Ownership, Taken, MutexWait, CurChange, Pass, wait_of, wait_row}
+use Rattle.rt_plain.specs.kernel.Ownership.{Ownership, Taken, CurChange, Pass, wait_of, wait_row}
 use Rattle.mutex_chain.specs.declared.answers.Took.{Took}
 use Rattle.mutex_chain.specs.declared.answers.Released.{Released}
 use Rattle.mutex_chain.specs.Owners.{has_thread}
@@ -65,24 +65,9 @@ pub record Keeps (before after : Ownership) : Type 0 where
   pub size : length before.members ≡ length after.members
   pub there : (t : ℕ) → has_thread after t ≡ true → has_thread before t ≡ true
 
--- a thread in a mutex's wait list, with this priority, where it waits there
-abbrev pub waiter_with : ℕ → ℕ → ℕ → Option MutexWait → Option Waiter
-waiter_with prio mutex t None = None
-waiter_with prio mutex t (Some w) = if w.mutex == mutex then Some (record { thread = t; prio = prio; number = w.number }) else None
-
 -- the row of a thread in a mutex's wait list, where it waits there
 abbrev pub row_in : Ownership → ℕ → ℕ → Option Waiter
 row_in o mutex t = wait_row o mutex t (wait_of o t)
-
--- whether a waiter stands before the row of another thread
-abbrev pub goes_before : Waiter → Option Waiter → Bool
-goes_before w None = false
-goes_before w (Some v) = stands_before WaitOrder.Prio w v
-
--- before which place of a line of threads a waiter belongs
-abbrev pub place_of : (ℕ → Option Waiter) → Waiter → List ℕ → ℕ
-place_of row w [] = 0
-place_of row w (t ∷ ts) = if goes_before w (row t) then 0 else suc (place_of row w ts)
 
 -- a waiter, or another one that it doesn't stand before
 abbrev pub sooner_of : Waiter → Option Waiter → Waiter

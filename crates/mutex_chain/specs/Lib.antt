@@ -5,3 +5,6 @@ pub mod Equations
 pub mod Raising
 pub mod Renewing
 pub mod Noting
+pub mod Lines
+pub mod Costs
+pub mod Ending

@@ -1,19 +1,20 @@
-ghost use Rattle.std.specs.Prelude.{◌≡◌, ◌≢◌, ◌+◌, ◌*◌, ◌<◌, ◌≤◌, [], ◌∷◌, None, Some, false, length, map, replicate, slice_set, IfOk, IfSome, IsTrue};
+ghost use Rattle.std.specs.Prelude.{◌≡◌, ◌≢◌, ◌+◌, ◌*◌, ◌<◌, ◌≤◌, [], ◌∷◌, All, None, Some, false, length, map, replicate, slice_set, IfOk, IfSome, IsTrue};
 ghost use Rattle.std.specs.Option.{option_map};
 ghost use Rattle.rt_plain.specs.kernel.Ownership.{awaited_in, base_edit, base_of, ceiling_edit, changes, cur_in, first_in, kill_mutex_edit, kill_thread_edit, leave_edit, member_at, owner_in, passes_of, release_edit, take_edit, taken_of, wait_edit, waiters_in, with_member};
-ghost use Rattle.rt_plain.specs.kernel.Weight.{ceiling_touches, edit_size, release_touches};
+ghost use Rattle.rt_plain.specs.kernel.Weight.{ceiling_touches, edit_size, end_touches, mutex_end_touches, release_touches};
 ghost use Rattle.mutex_chain.specs.Graph.{IsOther, is_last, took_of, released_of, hold_of, pair_of};
 ghost use Rattle.mutex_chain.specs.Equations.{IsOnce};
 ghost use Rattle.mutex_chain.specs.Owners.{AreOwned, has_thread, has_mutex, ceiling_at};
 
 use crate::answers::{Released, Took};
 use crate::changes::{Changes, number};
-use crate::curs::{compute, count_waiters, first_waiter, renew};
+use crate::curs::renew;
 use crate::ends::{end_thread, end_wait, hand_on, leave_all, list_waiters};
 use crate::owners::Owners;
 use crate::passes::Passes;
-use crate::raising::strengthen;
+use crate::raising::{carry_uncounted, strengthen};
 use crate::rows::{MemberRow, WaitRow};
+use crate::stored::Stored;
 use crate::woken::Woken;
 use rt_base::{ObjNo, Prio, Steps, ThreadNo};
 use std::alloc::{AllocError, Global};
@@ -31,14 +32,12 @@ use std::sync::ledger::Ledger;
 /// after it and whose current priority it changed, in thread order, with both numbers; what the list
 /// held before is dropped. It has to have been made for at least as many threads as the graph.
 ///
-/// Only `new` takes memory. Each edit raises `steps`: `take`, `wait`, a base or a ceiling that is at
-/// least as urgent as the one before, and a release that isn't the last one, by at most 8 times the size
-/// of the edit (the weights of the chains of the threads that it touches, before and after it, and 1). Of
-/// the other edits nothing is said yet.
+/// Only `new` takes memory. Each edit raises `steps` by at most 8 times the size of the edit: the weights
+/// of the chains of the threads that it touches, before and after it, and 1.
 #[derive(Drop)]
 pub struct MutexGraph {
     owners: Owners,
-    curs: Vec<u16>,
+    curs: Stored,
 }
 
 impl Model for MutexGraph {
@@ -49,7 +48,7 @@ impl Model for MutexGraph {
 
     ghost view = { λ g. g.owners };
 
-    ghost invariant = { λ g. IsCurrent g.owners g.curs.items };
+    ghost invariant = { λ g. IsCurrent g.owners g.curs.numbers.items g.curs.lines.items };
 }
 
 impl MutexGraph {
@@ -58,8 +57,8 @@ impl MutexGraph {
         ensures { IfOk result (λ g. g ≡ record { members = replicate threads None; ceilings = replicate mutexes None; taken = [] }) }
     {
         let owners = Owners::new(alloc, threads, mutexes)?;
-        let mut curs = vec![in alloc; 0; threads as usize]?;
-        compute(&owners, &mut curs);
+        let curs = Stored::new(alloc, threads, mutexes)?;
+        owners.know_sound();
         Ok(MutexGraph { owners, curs })
     }
 
@@ -71,7 +70,8 @@ impl MutexGraph {
     {
         let row = MemberRow { base, wait: None };
         self.owners.set_member(thread, Some(row));
-        compute(&self.owners, &mut self.curs);
+        self.owners.know_sound();
+        carry_uncounted(&self.owners, &mut self.curs, Some(thread), base.0 as u16);
     }
 
     /// A mutex that isn't there comes, with its ceiling. Nobody owns it.
@@ -81,7 +81,9 @@ impl MutexGraph {
         ensures { self.new ≡ ceiling_edit mutex ceiling self.old }
     {
         self.owners.set_ceiling(mutex, Some(ceiling));
-        compute(&self.owners, &mut self.curs);
+        self.owners.know_sound();
+        let owner = self.owners.holder(mutex);
+        carry_uncounted(&self.owners, &mut self.curs, owner, ceiling.0 as u16);
     }
 
     /// Gives a thread another base.
@@ -98,8 +100,7 @@ impl MutexGraph {
         ensures threads { length self.new.members ≡ length self.old.members }
         ensures mutexes { length self.new.ceilings ≡ length self.old.ceilings }
         ensures changes { out.new ≡ record out.old { changes = changes self.old self.new } }
-        ensures cost { base ≤ base_of (member_at self.old thread) →
-            steps.new ≤ steps.old + 8 * edit_size self.old self.new (thread ∷ []) }
+        ensures cost { steps.new ≤ steps.old + 8 * edit_size self.old self.new (thread ∷ []) }
     {
         steps.tick();
         let old = self.owners.base_of(thread);
@@ -135,8 +136,7 @@ impl MutexGraph {
         ensures threads { length self.new.members ≡ length self.old.members }
         ensures mutexes { length self.new.ceilings ≡ length self.old.ceilings }
         ensures changes { out.new ≡ record out.old { changes = changes self.old self.new } }
-        ensures cost { ceiling ≤ result →
-            steps.new ≤ steps.old + 8 * edit_size self.old self.new (ceiling_touches self.old mutex) }
+        ensures cost { steps.new ≤ steps.old + 8 * edit_size self.old self.new (ceiling_touches self.old mutex) }
     {
         steps.tick();
         let old = self.ceiling(mutex);
@@ -181,7 +181,9 @@ impl MutexGraph {
     {
         steps.tick();
         let number = self.ceiling(mutex).0 as u16;
+        steps.tick();
         let is_free = self.owners.holder(mutex).is_none();
+        steps.tick();
         let took = self.owners.take(thread, mutex);
         self.owners.know_sound();
         let from = is_free.then_some(thread);
@@ -210,7 +212,9 @@ impl MutexGraph {
         ensures cost { steps.new ≤ steps.old + 8 * edit_size self.old self.new (thread ∷ []) }
     {
         steps.tick();
-        let number = self.curs[thread.0 as usize];
+        let number = self.curs.numbers[thread.0 as usize];
+        steps.tick();
+        self.curs.join(&self.owners, thread, mutex, at);
         self.owners.set_wait(thread, Some(WaitRow { mutex, at }));
         self.owners.know_sound();
         steps.tick();
@@ -227,9 +231,10 @@ impl MutexGraph {
         ensures threads { length self.new.members ≡ length self.old.members }
         ensures mutexes { length self.new.ceilings ≡ length self.old.ceilings }
         ensures changes { out.new ≡ record out.old { changes = changes self.old self.new } }
+        ensures cost { steps.new ≤ steps.old + 8 * edit_size self.old self.new (thread ∷ []) }
     {
         steps.tick();
-        let owner = end_wait(&mut self.owners, thread);
+        let owner = end_wait(&mut self.owners, &mut self.curs, thread, steps);
         renew(&self.owners, &mut self.curs, owner, out, steps);
     }
 
@@ -250,18 +255,20 @@ impl MutexGraph {
         ensures threads { length self.new.members ≡ length self.old.members }
         ensures mutexes { length self.new.ceilings ≡ length self.old.ceilings }
         ensures changes { out.new ≡ record out.old { changes = changes self.old self.new } }
-        ensures cost { is_last thread (taken_of self.old mutex) ≡ false →
-            steps.new ≤ steps.old + 8 * edit_size self.old self.new (release_touches self.old thread mutex) }
+        ensures cost { steps.new ≤ steps.old + 8 * edit_size self.old self.new (release_touches self.old thread mutex) }
     {
         steps.tick();
         if !self.owners.is_last_hold(thread, mutex) {
+            steps.tick();
             let released = self.owners.release(thread, mutex);
             self.owners.know_sound();
             strengthen(&self.owners, &mut self.curs, None, 0, out, steps);
             return released;
         }
         out.clear();
-        let first = first_waiter(&self.owners, &self.curs, mutex);
+        // The call on the wait list.
+        steps.tick();
+        let first = self.curs.first(&self.owners, mutex);
         hand_on(
             &mut self.owners,
             &mut self.curs,
@@ -271,7 +278,7 @@ impl MutexGraph {
             out,
             steps,
         );
-        out.settle(&self.owners, &self.curs);
+        out.settle(&self.owners, &self.curs.numbers);
         match first {
             None => Released::Free,
             Some(waiter) => Released::Passed(waiter),
@@ -294,12 +301,13 @@ impl MutexGraph {
         ensures threads { length self.new.members ≡ length self.old.members }
         ensures mutexes { length self.new.ceilings ≡ length self.old.ceilings }
         ensures changes { out.new ≡ record out.old { changes = changes self.old self.new } }
+        ensures cost { steps.new ≤ steps.old + 8 * edit_size self.old self.new (mutex_end_touches self.old mutex) }
     {
         steps.tick();
-        list_waiters(&self.owners, &self.curs, mutex, woken);
+        list_waiters(&self.owners, &self.curs, mutex, woken, steps);
         let owner = self.owners.holder(mutex);
         self.owners.free(mutex);
-        leave_all(&mut self.owners, woken.as_slice());
+        leave_all(&mut self.owners, &mut self.curs, woken.as_slice(), steps);
         self.owners.set_ceiling(mutex, None);
         self.owners.know_sound();
         renew(&self.owners, &mut self.curs, owner, out, steps);
@@ -322,12 +330,13 @@ impl MutexGraph {
         ensures threads { length self.new.members ≡ length self.old.members }
         ensures mutexes { length self.new.ceilings ≡ length self.old.ceilings }
         ensures changes { out.new ≡ record out.old { changes = changes self.old self.new } }
+        ensures cost { steps.new ≤ steps.old + 8 * edit_size self.old self.new (end_touches self.old thread) }
     {
         steps.tick();
         out.clear();
         self.owners.know_sound();
         end_thread(&mut self.owners, &mut self.curs, thread, passes, out, steps);
-        out.settle(&self.owners, &self.curs);
+        out.settle(&self.owners, &self.curs.numbers);
     }
 
     /// Whether a thread is there.
@@ -346,15 +355,17 @@ impl MutexGraph {
         self.owners.ceiling(mutex).is_some()
     }
 
-    /// Each mutex is owned once, and each awaited mutex has an owner. It does nothing when it runs.
+    /// Each mutex is owned once, by a thread for which there is room, and each awaited mutex has an owner. It does nothing
+    /// when it runs.
     pub fn know_owners(&self)
         ensures once { IsOnce self.now }
         ensures owned { AreOwned self.now }
+        ensures owners { All (λ h. h.owner < length self.now.members) self.now.taken }
     {
         // Each field with its type: a further one doesn't compile before it is named here too.
         let MutexGraph { owners, curs } = self;
         let _: &Owners = owners;
-        let _: &Vec<u16> = curs;
+        let _: &Stored = curs;
     }
 
     /// The current priority of a thread.
@@ -362,7 +373,7 @@ impl MutexGraph {
         requires { IsTrue (has_thread self.now thread) }
         ensures { result ≡ cur_in self.now thread }
     {
-        number(self.curs[thread.0 as usize])
+        number(self.curs.numbers[thread.0 as usize])
     }
 
     /// The mutex that a thread waits on: `None` exactly where it waits on none.
@@ -389,7 +400,7 @@ impl MutexGraph {
         requires { IsTrue (has_mutex self.now mutex) }
         ensures { result ≡ first_in self.now mutex }
     {
-        first_waiter(&self.owners, &self.curs, mutex)
+        self.curs.first(&self.owners, mutex)
     }
 
     /// How often the owner of a mutex has taken it: 0 where nobody owns it.
@@ -419,6 +430,6 @@ impl MutexGraph {
         requires { IsTrue (has_mutex self.now mutex) }
         ensures { result ≡ length (waiters_in self.now mutex) }
     {
-        count_waiters(&self.owners, mutex)
+        self.curs.waiters(&self.owners, mutex)
     }
 }

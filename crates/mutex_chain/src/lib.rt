@@ -7,12 +7,13 @@ mod curs;
 mod ends;
 mod graph;
 pub mod laws;
+mod lone;
 mod owners;
 mod passes;
 mod raising;
 mod renewing;
 mod rows;
-mod waiter;
+mod stored;
 mod woken;
 
 pub use answers::{Released, Took};

@@ -1,15 +1,14 @@
 ghost use Rattle.std.specs.Prelude.{ℕ, ◌≡◌, ◌+◌, ◌<◌, ◌≤◌, [], ◌∷◌, None, Some, false, length, map, not, ◌==◌, filter, if◌then◌else◌, replicate, slice_set, vec_capacity, IfOk, IfSome};
 ghost use Rattle.std.specs.List.{find};
-ghost use Rattle.std.specs.Option.{is_some, option_map};
-ghost use Rattle.rt_plain.specs.kernel.Ownership.{base_of, member_at, taken_of, member_urgency, owned_in, owner_in, with_member, base_edit, member_edit, with_wait, with_mutex_free, with_mutex_got, with_taken_times, wait_of, take_edit, pass_edit_to, first_in, release_edit};
-ghost use Rattle.rt_plain.specs.kernel.Priority.{is_one_of};
+ghost use Rattle.std.specs.Option.{option_map};
+ghost use Rattle.rt_plain.specs.kernel.Ownership.{awaited_in, base_of, member_at, taken_of, member_urgency, owned_in, owner_in, with_member, base_edit, member_edit, with_wait, with_mutex_free, with_mutex_got, with_taken_times, wait_of, take_edit, pass_edit_to, first_in, release_edit};
 ghost use Rattle.rt_plain.specs.kernel.Waiting.{head_of};
-ghost use Rattle.mutex_chain.specs.Graph.{is_last, took_of, released_of, row_in, waiter_with};
+ghost use Rattle.mutex_chain.specs.Graph.{is_last, took_of, released_of};
 ghost use Rattle.mutex_chain.specs.Owners.{IsSound, has_thread, has_mutex, ceiling_at, blocker_in, with_hold};
+ghost use Rattle.mutex_chain.specs.Costs.{one_wait, least_of};
 
 use crate::answers::{Released, Took};
 use crate::rows::{MemberRow, TakenRow, WaitRow};
-use crate::waiter::Waiter;
 use rt_base::{ObjNo, Prio, Steps, ThreadNo};
 use std::alloc::{AllocError, Global};
 use std::marker::Model;
@@ -56,12 +55,11 @@ impl Owners {
         })
     }
 
-    // How many thread numbers there are.
-    pub fn threads(&self) -> u16
-        ensures count { result ≡ length self.now.members }
-        ensures sound { IsSound self.now }
+    // Who owns what, last got first.
+    pub fn rows(&self) -> &[TakenRow]
+        ensures { result.now ≡ self.now.taken }
     {
-        self.members.len() as u16
+        self.taken.as_slice()
     }
 
     // What the tables keep.
@@ -77,6 +75,14 @@ impl Owners {
         ensures { result ≡ member_at self.now thread }
     {
         self.members[thread.0 as usize]
+    }
+
+    // The wait of a thread, if it waits.
+    pub fn wait(&self, thread: ThreadNo) -> Option<WaitRow>
+        requires { thread < length self.now.members }
+        ensures { result ≡ wait_of self.now thread }
+    {
+        self.member(thread)?.wait
     }
 
     // The base of a thread. One that isn't there has 256.
@@ -124,18 +130,8 @@ impl Owners {
         self.holder(wait.mutex)
     }
 
-    // Whether a thread waits on a mutex of another one.
-    pub fn waits_for(&self, thread: ThreadNo, owner: ThreadNo) -> bool
-        requires { thread < length self.now.members }
-        ensures { result ≡ is_one_of (owner ∷ []) (blocker_in self.now thread) }
-    {
-        match self.blocker(thread) {
-            None => false,
-            Some(blocker) => blocker.0 == owner.0,
-        }
-    }
-
-    // The owner of the mutex that a thread waits on, with the reads of the two rows counted.
+    // The owner of the mutex that a thread waits on, with the reads counted: the thread's row, and that of the mutex where
+    // there is one.
     pub fn counted_blocker<L: Ledger>(
         &self,
         thread: ThreadNo,
@@ -144,11 +140,14 @@ impl Owners {
         requires { thread < length self.now.members }
         ensures owner { result ≡ blocker_in self.now thread }
         ensures within { IfSome result (λ owner. owner < length self.now.members) }
-        ensures count { steps.new ≡ steps.old + 2 }
+        ensures count { steps.new ≡ steps.old + (1 + one_wait (awaited_in self.now thread)) }
     {
         steps.tick();
+        let Some(wait) = self.wait(thread) else {
+            return None;
+        };
         steps.tick();
-        self.blocker(thread)
+        self.holder(wait.mutex)
     }
 
     // The owner of a mutex.
@@ -163,28 +162,33 @@ impl Owners {
         self.holders[place]
     }
 
-    // A thread's own urgency: the least of its base and the ceilings of the mutexes that it owns.
-    pub fn urgency(&self, thread: ThreadNo) -> u16
+    // A thread's own urgency: the least of its base and the ceilings of the mutexes that it owns. It counts the thread's
+    // row, and the row of each of its mutexes.
+    pub fn urgency<L: Ledger>(&self, thread: ThreadNo, steps: &mut Steps<L>) -> u16
         requires { thread < length self.now.members }
-        ensures { result ≡ member_urgency self.now thread }
+        ensures urgency { result ≡ member_urgency self.now thread }
+        ensures count { steps.new ≡ steps.old + (1 + length (owned_in self.now thread)) }
     {
+        steps.tick();
         let mut least = self.base_of(thread);
         for row in &self.taken {
-            if row.owner.0 == thread.0
-                && let Some(ceiling) = self.ceilings[row.mutex.0 as usize]
-            {
-                least = least.min(ceiling.0 as u16);
+            if row.owner.0 == thread.0 {
+                steps.tick();
+                least = self.least_with(least, row.mutex);
             }
         }
         least
     }
 
-    // Whether a thread waits on a mutex.
-    pub fn waits_on(&self, thread: ThreadNo, mutex: ObjNo) -> bool
-        requires { thread < length self.now.members }
-        ensures { result ≡ is_some (row_in self.now mutex thread) }
+    // The least of a number and the ceiling of a mutex, if it is there.
+    fn least_with(&self, least: u16, mutex: ObjNo) -> u16
+        requires { mutex < length self.now.ceilings }
+        ensures { result ≡ least_of least (ceiling_at self.now mutex) }
     {
-        self.waiter(thread, mutex, 0).is_some()
+        match self.ceiling(mutex) {
+            None => least,
+            Some(ceiling) => least.min(ceiling.0 as u16),
+        }
     }
 
     // The mutex that a thread got last of those that it owns.
@@ -194,19 +198,6 @@ impl Owners {
         ensures sound { IsSound self.now }
     {
         first_owned_by(&self.taken, thread)
-    }
-
-    // A thread in the wait list of a mutex, with this priority, where it waits there.
-    pub fn waiter(&self, thread: ThreadNo, mutex: ObjNo, prio: u16) -> Option<Waiter>
-        requires { thread < length self.now.members }
-        ensures { result ≡ waiter_with prio mutex thread (wait_of self.now thread) }
-    {
-        let wait = self.member(thread)?.wait?;
-        (wait.mutex == mutex).then_some(Waiter {
-            thread,
-            prio,
-            at: wait.at,
-        })
     }
 
     // Gives a number another row.

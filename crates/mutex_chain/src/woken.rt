@@ -1,5 +1,4 @@
-ghost use Rattle.std.specs.Prelude.{◌≡◌, ◌<◌, ◌≤◌, [], length, IfOk};
-ghost use Rattle.std.specs.List.{insert};
+ghost use Rattle.std.specs.Prelude.{◌≡◌, ◌<◌, ◌∷◌, ◌++◌, [], length, IfOk};
 
 use rt_base::ThreadNo;
 use std::alloc::{AllocError, Global};
@@ -47,12 +46,11 @@ impl Woken {
         self.woken.clear();
     }
 
-    // One more, at a place.
-    pub(crate) fn insert(&mut self, place: usize, thread: ThreadNo)
-        requires place { place ≤ length self.old.woken }
-        requires room { length self.old.woken < self.old.threads }
-        ensures { self.new ≡ record self.old { woken = insert self.old.woken place thread } }
+    // One more at the end.
+    pub(crate) fn push(&mut self, thread: ThreadNo)
+        requires { length self.old.woken < self.old.threads }
+        ensures { self.new ≡ record self.old { woken = self.old.woken ++ thread ∷ [] } }
     {
-        let _ = self.woken.insert(place, thread);
+        self.woken.push_reserved(thread);
     }
 }

@@ -83,12 +83,19 @@ impl Votes {
         Code::Ok
     }
 
+    /// The lightest mode with a vote, `None` where none has one.
+    pub fn voted(&self) -> Option<Sleep>
+        ensures { result ≡ find (λ mode. nat_lt 0 (votes_for self.now.votes mode)) sleep_modes }
+    {
+        lightest_voted(&self.counts)
+    }
+
     /// The lightest mode with a vote, or the default mode where none has one. That choice is this
     /// project's own.
     pub fn mode(&self) -> Sleep
         ensures { result ≡ voted_mode self.now.default_mode self.now.votes }
     {
-        lightest_voted(&self.counts).unwrap_or(self.default_mode)
+        self.voted().unwrap_or(self.default_mode)
     }
 
     /// How many votes a mode has.

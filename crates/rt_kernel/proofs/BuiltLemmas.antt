@@ -9,12 +9,12 @@ use Rattle.rt_plain.specs.declared.stmt.Stmt.{Stmt}
 use Rattle.rt_plain.specs.PlainBoard.{PlainBoard}
 use Rattle.rt_plain.specs.kernel.Statements.{script_of, statement_at}
 use Rattle.rt_plain.specs.text.Canon.{IsValid}
-use Rattle.rt_plain.proofs.runs.RunnableLemmas.{IsStocked, valid_stocked, valid_proper, valid_until, valid_scripts, valid_sized, valid_threads}
+use Rattle.rt_plain.proofs.runs.RunnableLemmas.{IsStocked, valid_stocked, valid_proper, valid_until, valid_scripts, valid_sized, valid_threads, valid_cores}
 use Rattle.rt_plain.proofs.kernel.TallyLemmas.{all-found}
 use Rattle.std.proofs.lemmas.List.Elements.{recursion_from_All}
 use Rattle.rt_plain.specs.declared.kind.LineKind.{LineKind}
 use Rattle.rt_plain.proofs.text.ValidLemmas.{valid_grows}
-use Rattle.rt_plain.proofs.kernel.LevelLemmas.{valid_levelled}
+use Rattle.rt_plain.proofs.kernel.LevelLemmas.{valid_levelled, valid_timers, valid_arrivals}
 use Rattle.rt_plain.specs.kernel.Sound.{is_levelled}
 use Rattle.ready_list.specs.Depths.{is_depth}
 use Rattle.kernel_tables.specs.Opened.{HasFittingObjects}
@@ -34,9 +34,6 @@ both : (a b : Bool) → a && b ≡ true → (a ≡ true) × (b ≡ true)
 both true true is = (refl, refl)
 both true false is = absurd cc
 both false b is = absurd cc
-
-eq_of : (m n : ℕ) → eqb m n ≡ true → m ≡ n
-eq_of m n is = grind arith
 
 -- the objects of a valid board
 fitting : (b : PlainBoard) → IsStocked b → HasFittingObjects b
@@ -58,15 +55,9 @@ valid_depth b valid = ((valid_grows b valid).0 LineKind.Levels).0
 pub built : (b : PlainBoard) → IsValid b → is_built b ≡ true → IsBuilt b
 built b valid is =
     let top = both _ _ is in
-    let classes = both _ _ top.0 in
     let scripts = both _ _ top.1 in
-    let core = both _ _ scripts.0 in
-    let own = both _ _ core.1 in
-    let waited = both _ _ classes.0 in
-    let outside = both _ _ classes.1 in
-    let c = both _ _ waited.0 in
-    let d = both _ _ waited.1 in
-    let e = both _ _ outside.0 in
+    let own_calls = both _ _ scripts.1 in
+    let own = both _ _ scripts.0 in
     record {
       proper = valid_proper b valid;
       sized = valid_sized b valid;
@@ -76,17 +67,18 @@ built b valid is =
       until = valid_until b valid;
       few = omega (arith, valid_threads b valid);
       short = valid_scripts b valid;
-      mutexes = no_items b.mutexes c.0;
-      mailboxes = no_items b.mailboxes c.1;
-      queues = no_items b.queues d.0;
-      pools = no_items b.pools d.1;
-      devices = no_items b.devices e.0;
-      timers = no_items b.timers e.1;
-      arrivals = no_items b.arrivals outside.1;
-      cores = eq_of b.cores 1 core.0;
+      mutexes = no_items b.mutexes top.0;
+      mutex_room = (valid_stocked b valid).mutexes.0;
+      mutex_names = (valid_stocked b valid).mutexes.1;
+      few_devices = (valid_stocked b valid).devices.0;
+      later = valid_arrivals b valid;
+      some_core = (valid_cores b valid).0;
       shell = no_one b.shell own.0;
       soft = no_one b.soft own.1;
-      threads = scripts.1;
+      threads = own_calls.0;
+      timers = own_calls.1;
+      few_timers = omega (arith, (valid_stocked b valid).timers.0);
+      actions = valid_timers b valid;
       apart = (valid_stocked b valid).threads.1;
     }
 

@@ -9,18 +9,18 @@ use Rattle.rt_plain.specs.kernel.State.{State, EventObj, thread_at}
 use Rattle.rt_plain.specs.kernel.Effects.{each_effect}
 use Rattle.rt_plain.specs.kernel.Waiting.{waiters, receives_event}
 use Rattle.rt_plain.specs.kernel.Outcome.{By, First, Outcome, refusal, success, found_outcome, wait_or_refusal}
-use Rattle.rt_plain.specs.kernel.EventCalls.{Want, Wanting, is_satisfied, want_of, with_event, event_recv, event_recv_outcome, event_send, event_send_outcome, satisfied_waiters, flags_left, flags_wake_effect}
+use Rattle.rt_plain.specs.kernel.EventCalls.{Want, Wanting, is_satisfied, want_of, with_event, event_recv, event_recv_outcome, event_send, event_send_outcome, satisfied_waiters, flags_left, wanting_threads}
 use Rattle.rt_plain.specs.kernel.DeleteCall.{deletion_outcome, event_deletion}
 use Rattle.rt_plain.proofs.text.FieldLemmas.{is_word}
 use Rattle.rt_plain.proofs.text.StatementTableLemmas.{find_some}
 use Rattle.rt_plain.proofs.kernel.TallyLemmas.{all-map, all-filter}
 use Rattle.rt_kernel.specs.declared.state.State.{State as KernelState}
-use Rattle.kernel_tables.specs.Tabled.{Tabled, found_event, event_line, flags_got, events_received, wanting_on, woken_on, sent_to, all_woken}
+use Rattle.kernel_tables.specs.Tabled.{found_event, flags_got, events_received, all_woken}
+use Rattle.mutex_tables.specs.Woken.{sent_to, woken_on}
+use Rattle.mutex_tables.specs.MutexTabled.{MutexTabled}
 use Rattle.kernel_tables.specs.Threads.{row_at}
 use Rattle.rt_kernel.specs.View.{state_of}
 use Rattle.rt_kernel.specs.Wake.{follow_effect}
-use Rattle.rt_kernel.proofs.CurLemmas.{IsFree}
-use Rattle.rt_kernel.proofs.WaiterLemmas.{waiters-line}
 use Rattle.rt_kernel.proofs.WakeLemmas.{on, wakes-follow, gives-follow, given-names, given-length, line-there}
 
 -- what is found by a name has it
@@ -55,35 +55,36 @@ receives_later s name copy want timeout by same e = ap (λ (n : List ℕ). waits
   by_found (Some event) is e = rw (not-satisfied want event (some-got (flags_got want event) e)) (ap waits (found-name s.events name event is))
 
 -- what a deletion does, and that those who wake are there
-pub event-deletes : (s : State) (name : List ℕ) (woken : List ℕ) → IsFree s → true ≡ is_some (found_event s.events name) → ((event : EventObj) → found_event s.events name ≡ Some event → woken ≡ event_line s.threads event)
+pub event-deletes : (s : State) (name : List ℕ) (woken : List ℕ) → true ≡ is_some (found_event s.events name) → ((event : EventObj) → found_event s.events name ≡ Some event → woken ≡ waiters s event.order (receives_event event.name))
     → (event_deletion name s ≡ success (each_effect (follow_effect Code.Error) woken (record s { threads = all_woken Code.Error s.threads woken; ready = s.ready ++ woken; events = filter (λ o. not (bytes_eq o.name name)) s.events }))) × AllByRecursion (λ t. t < length s.threads) woken
-event-deletes s name woken free there are = by_found (found_event s.events name) refl there where
+event-deletes s name woken there are = by_found (found_event s.events name) refl there where
   left : State
   left = record s { events = filter (λ o. not (bytes_eq o.name name)) s.events }
 
   by_found : (o : Option EventObj) → found_event s.events name ≡ o → true ≡ is_some o
       → (found_outcome o (refusal s Code.Inval) (λ event. deletion_outcome left (waiters s event.order (receives_event name))) ≡ success (each_effect (follow_effect Code.Error) woken (record left { threads = all_woken Code.Error s.threads woken; ready = s.ready ++ woken }))) × AllByRecursion (λ t. t < length s.threads) woken
   by_found None is some = absurd cc
-  by_found (Some event) is some = (ap (deletion_outcome left) listed ∙ ap success (wakes-follow Code.Error woken left), subst (AllByRecursion (λ t. t < length s.threads)) (sym (are event is)) (line-there s event.order (receives_event event.name) free)) where
+  by_found (Some event) is some = (ap (deletion_outcome left) listed ∙ ap success (wakes-follow Code.Error woken left), subst (AllByRecursion (λ t. t < length s.threads)) (sym (are event is)) (line-there s event.order (receives_event event.name))) where
     listed : waiters s event.order (receives_event name) ≡ woken
-    listed = ap (λ (n : List ℕ). waiters s event.order (receives_event n)) (sym (found-name s.events name event is)) ∙ waiters-line s event.order (receives_event event.name) free ∙ sym (are event is)
+    listed = ap (λ (n : List ℕ). waiters s event.order (receives_event n)) (sym (found-name s.events name event is)) ∙ sym (are event is)
 
 -- what a send leaves, and what follows from it
-pub record IsSent (r : KernelState) (new : Tabled) (name : List ℕ) (mask : ℕ) (woken : List (ℕ × ℕ)) : Type 0 where
+pub record IsSent (r : KernelState) (new : MutexTabled) (name : List ℕ) (mask : ℕ) (woken : List (ℕ × ℕ)) : Type 0 where
   pub names : (v : ℕ) → (row_at new.threads v).name ≡ (row_at r.tables.threads v).name
   pub count : length new.threads ≡ length r.tables.threads
   pub there : AllByRecursion (λ (w : ℕ × ℕ). w.0 < length r.tables.threads) woken
   pub few : length woken ≤ length r.tables.threads
   pub does : event_send name mask (state_of r) ≡ success (each_effect (λ (w : ℕ × ℕ). follow_effect Code.Ok w.0) woken (on r new))
 
-woken-there : (s : State) (event : EventObj) (mask : ℕ) → IsFree s → AllByRecursion (λ (w : ℕ × ℕ). w.0 < length s.threads) (woken_on s.threads event mask)
-woken-there s event mask free =
-    all-map (λ (w : ℕ × ℕ). w.0 < length s.threads) (λ (w : Wanting). (w.thread, bit_and (bit_or event.flags mask) w.want.mask)) (satisfied_waiters (bit_or event.flags mask) (wanting_on s.threads event))
-    (all-filter (λ (w : Wanting). w.thread < length s.threads) (λ (w : Wanting). is_satisfied (bit_or event.flags mask) w.want) (wanting_on s.threads event)
-    (all-map (λ (w : Wanting). w.thread < length s.threads) _ (event_line s.threads event) (line-there s event.order (receives_event event.name) free)))
+woken-there : (r : KernelState) (event : EventObj) (mask : ℕ) → AllByRecursion (λ (w : ℕ × ℕ). w.0 < length r.tables.threads) (woken_on r.tables event mask)
+woken-there r event mask =
+    let s : State = state_of r in
+    all-map (λ (w : ℕ × ℕ). w.0 < length s.threads) (λ (w : Wanting). (w.thread, bit_and (bit_or event.flags mask) w.want.mask)) (satisfied_waiters (bit_or event.flags mask) (wanting_threads s event))
+    (all-filter (λ (w : Wanting). w.thread < length s.threads) (λ (w : Wanting). is_satisfied (bit_or event.flags mask) w.want) (wanting_threads s event)
+    (all-map (λ (w : Wanting). w.thread < length s.threads) _ (waiters s event.order (receives_event event.name)) (line-there s event.order (receives_event event.name))))
 
-pub event-sends : (r : KernelState) (new : Tabled) (name : List ℕ) (mask : ℕ) (woken : List (ℕ × ℕ)) → true ≡ is_some (found_event r.tables.events name)
-    → ((event : EventObj) → found_event r.tables.events name ≡ Some event → woken ≡ woken_on r.tables.threads event mask)
+pub event-sends : (r : KernelState) (new : MutexTabled) (name : List ℕ) (mask : ℕ) (woken : List (ℕ × ℕ)) → true ≡ is_some (found_event r.tables.events name)
+    → ((event : EventObj) → found_event r.tables.events name ≡ Some event → woken ≡ woken_on r.tables event mask)
     → ((event : EventObj) → found_event r.tables.events name ≡ Some event → new ≡ sent_to r.tables event mask)
     → ((event : EventObj) → found_event r.tables.events name ≡ Some event → length woken ≤ length r.tables.threads)
     → IsSent r new name mask woken
@@ -94,24 +95,17 @@ event-sends r new name mask woken there are left few = by_found (found_event r.t
   by_found : (o : Option EventObj) → found_event r.tables.events name ≡ o → true ≡ is_some o → IsSent r new name mask woken
   by_found None is some = absurd cc
   by_found (Some event) is some = record {
-    names = λ v. ap (λ (k : Tabled). (row_at k.threads v).name) (left event is) ∙ given-names (woken_on s.threads event mask) s.threads v;
-    count = ap (λ (k : Tabled). length k.threads) (left event is) ∙ given-length (woken_on s.threads event mask) s.threads;
-    there = subst (AllByRecursion (λ (w : ℕ × ℕ). w.0 < length s.threads)) (sym (are event is)) (woken-there s event mask refl);
+    names = λ v. ap (λ (k : MutexTabled). (row_at k.threads v).name) (left event is) ∙ given-names (woken_on r.tables event mask) s.threads v;
+    count = ap (λ (k : MutexTabled). length k.threads) (left event is) ∙ given-length (woken_on r.tables event mask) s.threads;
+    there = subst (AllByRecursion (λ (w : ℕ × ℕ). w.0 < length s.threads)) (sym (are event is)) (woken-there r event mask);
     few = few event is;
     does = ap (λ (o : Option EventObj). found_outcome o (refusal s Code.Inval) (λ x. event_send_outcome x mask s)) is
-        ∙ ap sent (waiters-line s event.order (receives_event event.name) refl)
-        ∙ ap success (gives-follow flags (satisfied_waiters flags (wanting_on s.threads event)) put)
-        ∙ ap (λ (k : Tabled). success (each_effect (λ (w : ℕ × ℕ). follow_effect Code.Ok w.0) (woken_on s.threads event mask) (on r k))) (sym (left event is))
+        ∙ ap success (gives-follow flags (satisfied_waiters flags (wanting_threads s event)) put)
+        ∙ ap (λ (k : MutexTabled). success (each_effect (λ (w : ℕ × ℕ). follow_effect Code.Ok w.0) (woken_on r.tables event mask) (on r k))) (sym (left event is))
         ∙ ap (λ (ws : List (ℕ × ℕ)). success (each_effect (λ (w : ℕ × ℕ). follow_effect Code.Ok w.0) ws (on r new))) (sym (are event is));
   } where
     flags : ℕ
     flags = bit_or event.flags mask
 
     put : State
-    put = with_event s (record event { flags = flags_left flags (wanting_on s.threads event) })
-
-    wanting : List ℕ → List Wanting
-    wanting ts = map (λ t. record { thread = t; want = want_of (thread_at s t).stage }) ts
-
-    sent : List ℕ → Outcome
-    sent ts = success (each_effect (flags_wake_effect flags) (satisfied_waiters flags (wanting ts)) (with_event s (record event { flags = flags_left flags (wanting ts) })))
+    put = with_event s (record event { flags = flags_left flags (wanting_threads s event) })

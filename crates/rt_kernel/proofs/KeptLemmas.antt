@@ -1,9 +1,8 @@
 -- What the kernel's invariant says of its state.
-use Rattle.std.proofs.Common.{◌≡◌, ◌≢◌, ◌+◌, ◌≤◌, ◌<◌, ◌&&◌, ◌||◌, ℕ, zero, suc, List, [], ◌∷◌, Option, Some, None, Bool, true, false, length, eqb, refl, sym, ap, ◌∙◌, subst, arith, eq-eqb, filter, slice_index, slice_index_or, not, cond, ◌-◌}
+use Rattle.std.proofs.Common.{◌≡◌, ◌≢◌, ◌+◌, ◌≤◌, ◌<◌, ◌&&◌, ◌||◌, ℕ, zero, suc, List, [], ◌∷◌, Option, Some, None, Bool, true, false, length, eqb, refl, sym, ap, ◌∙◌, subst, arith, eq-eqb, filter, slice_index_or, not, cond, ◌-◌}
 use Rattle.std.proofs.lemmas.Bool.{lt-ltb}
 use Rattle.std.specs.Prelude.{if◌then◌else◌, ◌==◌, nat_lt}
 use Rattle.std.specs.List.{AllByRecursion, list_any, range_with_len}
-use Rattle.std.proofs.lemmas.List.FromFn.{length-range_with_len}
 use Rattle.rt_plain.specs.PlainBoard.{PlainBoard}
 use Rattle.rt_plain.specs.kernel.State.{State, Stage, Initial, Active, Waiting, Suspended, Closed, thread_at, running_on, Alarm, OfThread, OfTimer, ArmedRow, is_closed, is_nest_of, is_among}
 use Rattle.rt_plain.specs.kernel.Pick.{pick}
@@ -16,12 +15,11 @@ use Rattle.rt_plain.specs.kernel.Ticks.{next_tick_state, with_slice_used, thread
 use Rattle.rt_plain.specs.kernel.Owners.{close_effect}
 use Rattle.rt_plain.specs.kernel.Calls.{settled_effect}
 use Rattle.rt_plain.specs.kernel.Tally.{one_if, tally}
-use Rattle.rt_plain.proofs.kernel.TallyLemmas.{tally-length, all-count, all-weaker, tally-filter}
-use Rattle.rt_plain.specs.kernel.Kept.{Frame, Kept, stage_at, IsRowKept, IsRowBounded, IsFineThread, IsFineTimer, IsWaited}
+use Rattle.rt_plain.proofs.kernel.TallyLemmas.{all-count, all-weaker, tally-filter}
+use Rattle.rt_plain.specs.kernel.Kept.{Frame, Kept, stage_at, IsRowKept, IsRowBounded, IsFineThread, IsWaited}
 use Rattle.rt_plain.proofs.kernel.TallyLemmas.{tally-among}
 use Rattle.rt_plain.proofs.kernel.Invariant.{alarm-is, running-count, fine-at, fine-later, bounded-later, thread-kept, is-there, active-open, waiting-open, placed-active, running-active, run-kept, preempt-kept, without_alarm-kept}
 use Rattle.rt_plain.proofs.kernel.TickLemmas.{IsDueRow, DropsOne, due-rows, less-fits, filter-length, slice-fine, fold-kept}
-use Rattle.rt_plain.proofs.kernel.TickCosts.{all-owned, armed-few}
 use Rattle.rt_plain.proofs.kernel.StepLemmas.{picked-ready}
 use Rattle.rt_plain.proofs.kernel.StatementLemmas.{statement-kept, settled-kept}
 use Rattle.rt_plain.proofs.kernel.WakeLemmas.{wake-kept, close-kept}
@@ -30,13 +28,14 @@ use Rattle.rt_kernel.specs.View.{state_of}
 use Rattle.std.specs.Prelude.{All, IfSome}
 use Rattle.std.specs.Option.{option_map}
 use Rattle.std.proofs.lemmas.List.Elements.{All-from_recursion}
-use Rattle.rt_plain.specs.kernel.State.{Timer}
-use Rattle.rt_plain.specs.declared.board.TimerDef.{TimerDef}
 use Rattle.kernel_timers.specs.Alarmed.{first_alarm, is_armed, alarm_of, names_of}
+use Rattle.rt_kernel.specs.Actions.{MayFire}
 use Rattle.rt_kernel.specs.Due.{taken}
 use Rattle.rt_kernel.specs.IsKernel.{frame_of}
+use Rattle.rt_kernel.specs.Mutexes.{AreActive, HasNoMutex}
 use Rattle.rt_kernel.proofs.Quiet.{KeepsNames}
-use Rattle.rt_kernel.specs.Switched.{switched, switched_by, effect_or, preempt_effect, IsOnCore}
+use Rattle.rt_kernel.specs.Caller.{IsOnCore}
+use Rattle.rt_kernel.specs.Switched.{switched, switched_by, effect_or, preempt_effect}
 
 -- what holds under any frame that doesn't end later holds of now
 pub loosened : (f : Frame) (s : State) → Kept f s → s.moment ≤ f.low → f.latest ≤ 1099511627775 → Kept (frame_of f.board s) s
@@ -215,36 +214,32 @@ number-length (row ∷ rows) = put-length row (by_number rows) ∙ ap suc (numbe
     by_test true same = refl
     by_test false same = ap suc same
 
-due-tally : (moment : ℕ) (rows : List (ArmedRow Alarm)) → length (due_rows_at moment rows) ≡ tally (λ (row : ArmedRow Alarm). eqb row.due moment) rows
+pub due-tally : (moment : ℕ) (rows : List (ArmedRow Alarm)) → length (due_rows_at moment rows) ≡ tally (λ (row : ArmedRow Alarm). eqb row.due moment) rows
 due-tally moment rows = number-length (filter (λ (row : ArmedRow Alarm). eqb row.due moment) rows) ∙ filter-length (λ (row : ArmedRow Alarm). eqb row.due moment) rows
 
 -- dropping the rows of an alarm leaves no more due rows
 pub due-dropped : (s : State) (alarm : Alarm) → length (due (without_alarm s alarm)) ≤ length (due s)
 due-dropped s alarm = omega (arith, due-tally s.moment s.armed, due-tally s.moment (without_alarm s alarm).armed, tally-filter (λ (row : ArmedRow Alarm). eqb row.due s.moment) (λ (r : ArmedRow Alarm). not (is_alarm alarm r.alarm)) s.armed)
 
--- no more rows are due than there are threads, where there are no timers
-pub due-few : (f : Frame) (s : State) → Kept f s → s.timers ≡ [] → length (due s) ≤ length s.threads
-due-few f s kept none = omega (arith, due-tally s.moment s.armed, tally-length (λ (row : ArmedRow Alarm). eqb row.due s.moment) s.armed, armed-few f s kept, ap length none)
-
 some-alarm : (a c : Alarm) → Some a ≡ Some c → a ≡ c
 some-alarm a c e = cc
 
--- the first of the due rows is dropped with its alarm, and its thread waits
-pub first-due : (f : Frame) (s : State) (t : ℕ) → Kept f s → first_alarm (due s) ≡ Some (OfThread t) → (is_waiting (thread_at s t).stage ≡ true) × (length (due (without_alarm s (OfThread t))) < length (due s))
-first-due f s t kept first = by_rows (due s) refl (due-rows f s kept) first where
-  by_rows : (rows : List (ArmedRow Alarm)) → due s ≡ rows → AllByRecursion (IsDueRow f.now s.threads s.armed) rows → first_alarm rows ≡ Some (OfThread t) → (is_waiting (thread_at s t).stage ≡ true) × (length (due (without_alarm s (OfThread t))) < length (due s))
+-- the first of the due rows is dropped with its alarm, and where it is that of a thread, the thread waits
+pub first-due : (f : Frame) (s : State) (alarm : Alarm) → Kept f s → first_alarm (due s) ≡ Some alarm → IsWaited s.threads alarm × (length (due (without_alarm s alarm)) < length (due s))
+first-due f s alarm kept first = by_rows (due s) refl (due-rows f s kept) first where
+  by_rows : (rows : List (ArmedRow Alarm)) → due s ≡ rows → AllByRecursion (IsDueRow f.now s.threads s.armed) rows → first_alarm rows ≡ Some alarm → IsWaited s.threads alarm × (length (due (without_alarm s alarm)) < length (due s))
   by_rows [] is all first = absurd cc
   by_rows (row ∷ rows) is all first =
-      let same : row.alarm ≡ OfThread t = some-alarm row.alarm (OfThread t) first in
+      let same : row.alarm ≡ alarm = some-alarm row.alarm alarm first in
       let drops : DropsOne f.now s.armed row = all.0.drops in
-      let dropped : tally (λ (r : ArmedRow Alarm). eqb r.due s.moment) (without_alarm s (OfThread t)).armed + 1 ≤ tally (λ (r : ArmedRow Alarm). eqb r.due s.moment) s.armed = subst (λ (a : Alarm). tally (λ (r : ArmedRow Alarm). eqb r.due s.moment) (without_alarm s a).armed + 1 ≤ tally (λ (r : ArmedRow Alarm). eqb r.due s.moment) s.armed) same (subst (λ n. tally (λ (r : ArmedRow Alarm). eqb r.due n) (without_alarm s row.alarm).armed + 1 ≤ tally (λ (r : ArmedRow Alarm). eqb r.due n) s.armed) (sym kept.moment_is) drops) in
-      (subst (IsWaited s.threads) same all.0.waits, omega (arith, due-tally s.moment s.armed, due-tally s.moment (without_alarm s (OfThread t)).armed, dropped))
+      let dropped : tally (λ (r : ArmedRow Alarm). eqb r.due s.moment) (without_alarm s alarm).armed + 1 ≤ tally (λ (r : ArmedRow Alarm). eqb r.due s.moment) s.armed = subst (λ (a : Alarm). tally (λ (r : ArmedRow Alarm). eqb r.due s.moment) (without_alarm s a).armed + 1 ≤ tally (λ (r : ArmedRow Alarm). eqb r.due s.moment) s.armed) same (subst (λ n. tally (λ (r : ArmedRow Alarm). eqb r.due n) (without_alarm s row.alarm).armed + 1 ≤ tally (λ (r : ArmedRow Alarm). eqb r.due n) s.armed) (sym kept.moment_is) drops) in
+      (subst (IsWaited s.threads) same all.0.waits, omega (arith, due-tally s.moment s.armed, due-tally s.moment (without_alarm s alarm).armed, dropped))
 
 -- no row is due before the next moment where none is due now
-pub rows-ahead : (b : PlainBoard) (s : State) → due s ≡ [] → Kept (frame_of b s) s → All (λ (row : ArmedRow Alarm). s.moment < row.due) s.armed
+pub rows-ahead : (b : PlainBoard) (s : State) → due s ≡ [] → Kept (frame_of b s) s → All (λ (row : ArmedRow Alarm). s.moment + 1 ≤ row.due) s.armed
 rows-ahead b s none kept =
-    All-from_recursion (λ (row : ArmedRow Alarm). s.moment < row.due) s.armed
-    (both (IsRowKept s.moment s.threads) (λ (row : ArmedRow Alarm). row.due ≢ s.moment) (λ (row : ArmedRow Alarm). s.moment < row.due) (λ row is later. omega (arith, is.0, later)) s.armed kept.rows (none-due s.moment s.armed none))
+    All-from_recursion (λ (row : ArmedRow Alarm). s.moment + 1 ≤ row.due) s.armed
+    (both (IsRowKept s.moment s.threads) (λ (row : ArmedRow Alarm). row.due ≢ s.moment) (λ (row : ArmedRow Alarm). s.moment + 1 ≤ row.due) (λ row is later. omega (arith, is.0, later)) s.armed kept.rows (none-due s.moment s.armed none))
 
 -- each start number was given
 pub rows-latest : (f : Frame) (s : State) → Kept f s → All (λ (row : ArmedRow Alarm). row.number < s.numbers) s.armed
@@ -270,44 +265,40 @@ active-still Closed is = absurd cc
 pub running-free : (f : Frame) (s : State) (core t : ℕ) → Kept f s → running_on s core ≡ Some t → is_armed (OfThread t) s.armed ≡ false
 running-free f s core t kept runs = not-waited f.low s t (active-still (thread_at s t).stage (running-active f s core t kept runs)) s.armed kept.rows
 
--- a board without timers has none
-pub no-timers : (f : Frame) (s : State) → Kept f s → f.board.timers ≡ [] → s.timers ≡ []
-no-timers f s kept none = by_timers s.timers kept.timers_fine where
-  by_timers : (timers : List Timer) → AllByRecursion (IsFineTimer f.board) timers → timers ≡ []
-  by_timers [] all = refl
-  by_timers (timer ∷ timers) all = absurd (omega (arith, all.0.3.1.1, ap length none))
-
 -- the row that is taken
-pub thread-alarms : (timers : List Timer) (o : Option ℕ) → timers ≡ [] → IfSome o (λ who. who < 256 + length timers) → option_map (alarm_of (names_of timers)) o ≡ option_map (λ t. OfThread t) o
-thread-alarms timers None none there = refl
-thread-alarms timers (Some who) none there =
-    let less : who < 256 = omega (arith, there, ap length none) in
-    ap (λ c. Some (cond c (OfThread who) (OfTimer (slice_index_or (names_of timers) (who - 256) [])))) (lt-ltb who 256 less)
-
-pub taken-any : (b : PlainBoard) (s new : State) (o : Option ℕ) → new ≡ taken s (option_map (λ t. OfThread t) o) → Kept (frame_of b s) s → Kept (frame_of b new) new
+pub taken-any : (b : PlainBoard) (s new : State) (o : Option Alarm) → new ≡ taken s o → Kept (frame_of b s) s → Kept (frame_of b new) new
 taken-any b s new None is kept = subst (λ (u : State). Kept (frame_of b u) u) (sym is) kept
-taken-any b s new (Some t) is kept = subst (λ (u : State). Kept (frame_of b u) u) (sym is) (taken-kept b s (OfThread t) kept)
+taken-any b s new (Some alarm) is kept = subst (λ (u : State). Kept (frame_of b u) u) (sym is) (taken-kept b s alarm kept)
 
 -- what is so behind it
 pub record Taken (s new : State) (o : Option ℕ) : Type 0 where
-  pub waits : IfSome o (λ t. is_waiting (thread_at new t).stage ≡ true)
-  pub fewer : IfSome o (λ t. length (due new) < length (due s))
+  pub fires : IfSome o (λ who. MayFire new who)
+  pub fewer : IfSome o (λ who. length (due new) < length (due s))
   pub none : o ≡ None → due new ≡ []
 
 nothing-due : (rows : List (ArmedRow Alarm)) → first_alarm rows ≡ None → rows ≡ []
 nothing-due [] none = refl
 nothing-due (row ∷ rows) none = absurd cc
 
-pub taken-facts : (f : Frame) (s new : State) (o : Option ℕ) → Kept f s → first_alarm (due s) ≡ option_map (λ t. OfThread t) o → new ≡ taken s (option_map (λ t. OfThread t) o) → Taken s new o
-taken-facts f s new None kept first is = record { waits = tt; fewer = tt; none = λ e. ap due is ∙ nothing-due (due s) first }
-taken-facts f s new (Some t) kept first is =
-    let facts = first-due f s t kept first in
+pub taken-facts : (f : Frame) (s new : State) (o : Option ℕ) → Kept f s → IfSome o (λ who. who < 256 + length s.timers) → first_alarm (due s) ≡ option_map (alarm_of (names_of s.timers)) o → new ≡ taken s (option_map (alarm_of (names_of s.timers)) o) → Taken s new o
+taken-facts f s new None kept there first is = record { fires = tt; fewer = tt; none = λ e. ap due is ∙ nothing-due (due s) first }
+taken-facts f s new (Some who) kept there first is =
+    let alarm : Alarm = alarm_of (names_of s.timers) who in
+    let facts = first-due f s alarm kept first in
     record {
-      waits = subst (λ (u : State). is_waiting (thread_at u t).stage ≡ true) (sym is) facts.0;
+      fires = subst (λ (u : State). MayFire u who) (sym is) (record { there = there; waits = λ low. subst (IsWaited s.threads) (ap (λ c. cond c (OfThread who) (OfTimer (slice_index_or (names_of s.timers) (who - 256) []))) (lt-ltb who 256 low)) facts.0 });
       fewer = subst (λ (u : State). length (due u) < length (due s)) (sym is) facts.1;
       none = λ e. absurd (cc);
     }
 
-pub taken-names : (s new : State) (o : Option ℕ) → new ≡ taken s (option_map (λ t. OfThread t) o) → KeepsNames s new
+pub taken-names : (s new : State) (o : Option Alarm) → new ≡ taken s o → KeepsNames s new
 taken-names s new None is = subst (KeepsNames s) (sym is) (λ u. refl)
-taken-names s new (Some t) is = subst (KeepsNames s) (sym is) (λ u. refl)
+taken-names s new (Some alarm) is = subst (KeepsNames s) (sym is) (λ u. refl)
+
+pub taken-free : (s new : State) (o : Option Alarm) → new ≡ taken s o → HasNoMutex s → HasNoMutex new
+taken-free s new None is free = subst HasNoMutex (sym is) free
+taken-free s new (Some alarm) is free = subst HasNoMutex (sym is) free
+
+-- a thread that is ready is active
+pub ready-active : (f : Frame) (k : KernelState) → Kept f (state_of k) → AreActive k.tables
+ready-active f k kept u among = placed-active f (state_of k) u kept (omega (arith, tally-among k.tables.ready u among))

@@ -11,12 +11,13 @@ use Rattle.rt_plain.specs.kernel.State.{State, Thread, no_thread, thread_at, wit
 use Rattle.rt_plain.specs.kernel.Outcome.{refusal, silent_success, found_outcome}
 use Rattle.rt_plain.specs.kernel.ThreadCalls.{set_prio}
 use Rattle.rt_plain.specs.kernel.Statements.{script_of, call_effect, with_next}
-use Rattle.rt_plain.specs.kernel.Opening.{open_state, new_script_thread}
+use Rattle.rt_plain.specs.kernel.Opening.{open_state, unstarted_state, new_script_thread}
 use Rattle.rt_plain.specs.kernel.Pick.{pick}
 use Rattle.rt_plain.specs.kernel.Steps.{without_mark}
 use Rattle.rt_plain.specs.kernel.Effects.{with_ready_last, with_ready_first}
 use Rattle.rt_plain.specs.kernel.Ticks.{next_tick_state, with_slice_used, thread_after_slice}
 use Rattle.rt_plain.proofs.text.FieldLemmas.{is_word, is_same}
+use Rattle.rt_kernel.specs.Mutexes.{HasNoMutex}
 use Rattle.rt_kernel.specs.declared.state.State.{State as KernelState}
 use Rattle.kernel_tables.specs.Threads.{row_at}
 use Rattle.rt_kernel.specs.View.{state_of}
@@ -24,6 +25,7 @@ use Rattle.rt_kernel.specs.Built.{IsBuilt}
 use Rattle.rt_kernel.specs.IsKernel.{IsInOrder}
 use Rattle.rt_kernel.specs.Switched.{switched, switched_by, effect_or, preempt_effect}
 use Rattle.rt_kernel.proofs.Quiet.{KeepsNames, name-set}
+use Rattle.rt_kernel.proofs.TimersOpened.{auto_started}
 
 -- what keeps all names keeps the order
 pub order-kept : (b : PlainBoard) (s u : State) → KeepsNames s u → IsInOrder b s → IsInOrder b u
@@ -39,7 +41,10 @@ get-map f (y ∷ ys) (suc t) x d is = get-map f ys t x d is
 -- the board's order at its opening
 pub opened-order : (b : PlainBoard) (s : State) → IsBuilt b → s ≡ open_state b → IsInOrder b s
 unfolding open_state
-opened-order b s built is t def at = ap (λ (u : State). (thread_at u t).name) is ∙ rw (built.shell, built.soft, built.timers) (ap (λ (row : Thread). row.name) (get-map new_script_thread b.threads t def no_thread at))
+opened-order b s built is t def at =
+    ap (λ (u : State). (thread_at u t).name) is
+    ∙ ap (λ (u : State). (thread_at u t).name) (auto_started b.timers (unstarted_state b))
+    ∙ rw (built.shell, built.soft) (ap (λ (row : Thread). row.name) (get-map new_script_thread b.threads t def no_thread at))
 
 -- a core that takes a thread
 pub switched-names : (s : State) (core : ℕ) → KeepsNames s (effect_or s (switched s core)).state
@@ -72,6 +77,30 @@ begun-names s = by_list s.running (record s { moment = s.moment + 1 }) where
   by_list (None ∷ rs) s u = by_list rs s u
   by_list (Some t ∷ rs) s u = by_list rs (with_slice_used s (Some t)) u ∙ name-set s.threads t u (thread_after_slice (thread_at s t)) (slice-name (thread_at s t))
 
+-- there is no mutex behind either
+pub switched-free : (s : State) (core : ℕ) → HasNoMutex s → HasNoMutex (effect_or s (switched s core)).state
+switched-free s core free = by_both (running_on s core) (pick s core) where
+  by_mark : (r : ℕ) (c : Bool) → HasNoMutex (if c then with_ready_last (without_mark s r) r else with_ready_first (without_mark s r) r)
+  by_mark r true = free
+  by_mark r false = free
+
+  by_test : (r p : ℕ) (c : Bool) → HasNoMutex (effect_or s (if c then Some (preempt_effect s core r p) else None)).state
+  by_test r p true = by_mark r (thread_at s r).marked
+  by_test r p false = free
+
+  by_both : (r p : Option ℕ) → HasNoMutex (effect_or s (switched_by s core r p)).state
+  by_both None None = free
+  by_both None (Some p) = free
+  by_both (Some r) None = free
+  by_both (Some r) (Some p) = by_test r p _
+
+pub begun-free : (s : State) → HasNoMutex s → HasNoMutex (next_tick_state s)
+begun-free s free = by_list s.running (record s { moment = s.moment + 1 }) free where
+  by_list : (rs : List (Option ℕ)) (u : State) → HasNoMutex u → HasNoMutex (fold with_slice_used u rs)
+  by_list [] u free = free
+  by_list (None ∷ rs) u free = by_list rs u free
+  by_list (Some t ∷ rs) u free = by_list rs (with_slice_used u (Some t)) free
+
 -- setprio by a statement of a thread
 pub prio-names : (s : State) (t k : ℕ) (line : Option Code → Line) (name : List ℕ) (prio : ℕ) → KeepsNames s (call_effect t line (set_prio name prio (with_next s t k))).state
 prio-names s t k line name prio = by_found (find_thread next name) where
@@ -83,6 +112,16 @@ prio-names s t k line name prio = by_found (find_thread next name) where
   by_found (Some u) v =
       let mid : State = with_thread next u (record (thread_at next u) { base = prio }) in
       name-set mid.threads t v (record (thread_at mid t) { code = Code.Ok }) refl ∙ name-set next.threads u v (record (thread_at next u) { base = prio }) refl ∙ name-set s.threads t v (record (thread_at s t) { next = k }) refl
+
+-- there is no mutex behind it
+pub prio-free : (s : State) (t k : ℕ) (line : Option Code → Line) (name : List ℕ) (prio : ℕ) → HasNoMutex s → HasNoMutex (call_effect t line (set_prio name prio (with_next s t k))).state
+prio-free s t k line name prio free = by_found (find_thread next name) where
+  next : State
+  next = with_next s t k
+
+  by_found : (o : Option ℕ) → HasNoMutex (call_effect t line (found_outcome o (refusal next Code.Inval) (λ u. silent_success (with_thread next u (record (thread_at next u) { base = prio }))))).state
+  by_found None = free
+  by_found (Some u) = free
 
 same-def : (one other : ThreadDef) → Some one ≡ Some other → one ≡ other
 same-def one other e = cc

@@ -1,173 +1,214 @@
 -- What follows from the calls of threads is what the code does.
-use Rattle.std.proofs.Common.{◌≡◌, ℕ, ◌+◌, ◌≤◌, ◌==◌, arith, [], ◌++◌, length, length-append, filter, Option, Some, None, IfSome, true, refl, sym, ap, ◌∙◌}
+use Rattle.std.proofs.Common.{◌≡◌, ℕ, ◌+◌, ◌≤◌, arith, ◌++◌, length, List, Bool, is_some, nat_le, Option, Some, None, true, false, refl, sym, ap, ◌∙◌}
+use Rattle.std.specs.Prelude.{IfSome}
 use Rattle.rt_base.specs.declared.codes.Class.{Class}
+use Rattle.rt_base.specs.declared.codes.Code.{Code}
+use Rattle.rt_base.specs.Roomy.{Roomy}
 use Rattle.rt_plain.specs.declared.line.Line.{Line}
 use Rattle.rt_plain.specs.declared.stmt.Call.{Call}
 use Rattle.rt_plain.specs.PlainBoard.{PlainBoard}
-use Rattle.rt_base.specs.Roomy.{Roomy}
-use Rattle.rt_plain.specs.kernel.State.{State, InCall, thread_at, with_thread, find_thread}
-use Rattle.rt_plain.specs.kernel.Effects.{Effect, and_then, name_of}
-use Rattle.rt_plain.specs.kernel.Outcome.{By, ByThread, Attempt, First, Answer as PlainAnswer, Answers, Waits, Outcome, refusal, silent_success, found_outcome}
-use Rattle.rt_plain.specs.kernel.Statements.{call_effect, with_answer}
+use Rattle.rt_plain.specs.kernel.State.{State, Thread, no_thread, thread_at, with_thread, find_thread}
+use Rattle.rt_plain.specs.kernel.Sound.{is_active}
+use Rattle.rt_plain.proofs.kernel.TallyLemmas.{same-set}
+use Rattle.rt_plain.specs.kernel.Effects.{Effect, name_of}
+use Rattle.rt_plain.specs.kernel.Outcome.{By, ByThread, ByTimer, Attempt, First, Outcome, refusal, silent_success, found_outcome}
+use Rattle.rt_plain.specs.kernel.ThreadCalls.{kill, resume, set_prio}
+use Rattle.rt_plain.specs.kernel.Statements.{call_effect}
 use Rattle.rt_plain.specs.kernel.Calls.{outcome_of, settled_effect}
-use Rattle.rt_base.specs.declared.codes.Code.{Code}
 use Rattle.rt_kernel.specs.declared.answer.Answer.{Answer}
-use Rattle.rt_kernel.specs.declared.settle.NewBase.{NewBase}
-use Rattle.rt_kernel.specs.declared.state.State.{State as KernelState}
 use Rattle.rt_kernel.specs.declared.built.Subject.{Subject}
-use Rattle.rt_kernel.specs.Built.{is_built_call, subject_of}
-use Rattle.rt_kernel.specs.Does.{Does, Acts, headed}
+use Rattle.rt_kernel.specs.declared.caller.Caller.{Caller}
+use Rattle.rt_kernel.specs.declared.state.State.{State as KernelState}
+use Rattle.rt_kernel.specs.Built.{is_built_call, subject_of, subject_where}
+use Rattle.rt_kernel.specs.Caller.{IsOnCore, IsThere, plain_by}
+use Rattle.rt_kernel.specs.Does.{Does, headed}
 use Rattle.rt_kernel.specs.Limits.{limits_of}
-use Rattle.rt_kernel.specs.NewBase.{new_base, moved_by, moved_outcome, shown_effect, settle_effect}
+use Rattle.rt_kernel.specs.Mutexes.{AreActive, HasNoMutex, NobodyWaits}
 use Rattle.rt_kernel.specs.NextCall.{begun, next_call, settled_call}
+use Rattle.rt_kernel.specs.Settles.{settled, settled_outcome}
 use Rattle.rt_kernel.specs.View.{state_of}
-use Rattle.rt_kernel.proofs.CurLemmas.{IsFree}
 use Rattle.rt_kernel.proofs.ObjectQuiet.{quiet-sem_create, quiet-sem_take, quiet-sem_release, quiet-event_create, quiet-event_recv, quiet-event_send, quiet-sem_deletion, quiet-event_deletion}
-use Rattle.rt_kernel.proofs.DoesLemmas.{does-then}
-use Rattle.rt_kernel.proofs.NameLemmas.{prio-names}
-use Rattle.rt_kernel.proofs.Quiet.{IsQuietCall, KeepsNames, quiet-call, call_settles, quiet-wait, quiet-yield, quiet-startup, quiet-suspend, quiet-resume, quiet-kill, quiet-sched_lock, quiet-sched_unlock}
-use Rattle.rt_kernel.proofs.PrioLemmas.{prio_settles, nothing-follows}
+use Rattle.rt_kernel.proofs.ChannelQuiet.{quiet-mb_send, quiet-mb_urgent, quiet-mb_recv, quiet-mq_send, quiet-mq_urgent, quiet-mq_recv, quiet-mailbox_deletion, quiet-queue_deletion}
+use Rattle.rt_kernel.proofs.DeviceQuiet.{quiet-dev_open, quiet-dev_close, quiet-dev_read, quiet-dev_write, quiet-dev_ctl}
+use Rattle.rt_kernel.proofs.Quiet.{IsLively, IsQuietCall, KeepsNames, call-quiet, name-set, quiet-delay, quiet-yield, quiet-startup, quiet-suspend, quiet-resume, quiet-kill, quiet-sched_lock, quiet-sched_unlock, quiet-lock, quiet-unlock, quiet-answer, quiet-free}
+use Rattle.rt_kernel.proofs.Settled.{IsAlike, alike-back, call-settled, row-alike}
+use Rattle.rt_kernel.proofs.PoolQuiet.{quiet-mp_alloc, quiet-mp_free}
+use Rattle.rt_kernel.proofs.TimerQuiet.{quiet-timer_start, quiet-timer_stop, quiet-timer_set}
 
--- what follows from a call is what the code does, and no thread has another name
-pub record IsFollowed (b : PlainBoard) (s : State) (t core : ℕ) (call : Call) : Type 0 where
-  pub effect : settled_effect b s (next_call b t core call s).effect ≡ and_then (next_call b t core call s).effect (settle_effect (new_base (begun s t) call))
-  pub names : KeepsNames s (next_call b t core call s).effect.state
+-- who makes a call is active, and so are those that are ready
+pub lively : (k : KernelState) (by : Caller) → IsThere by k.tables → AreActive k.tables → IsLively (state_of k) (plain_by (state_of k) by)
+lively k (Caller.Thread t core) there active = record { caller = there.active; ready = active }
+lively k (Caller.Timer timer) there active = record { caller = tt; ready = active }
 
--- from a quiet call nothing follows
-quiet-follows : (b : PlainBoard) (s : State) (t core : ℕ) (call : Call) → new_base (begun s t) call ≡ None → IsFree s → IsQuietCall (begun s t) (outcome_of b call (begun s t) (ByThread t core) First) → IsFollowed b s t core call
-quiet-follows b s t core call none free quiet =
-    let k : ℕ = (thread_at s t).next + 1 in
-    let line : Option Code → Line = Line.Done (name_of (begun s t) t) (thread_at s t).next in
-    let outcome : Outcome = outcome_of b call (begun s t) (ByThread t core) First in
-    let e : Effect = (next_call b t core call s).effect in
-    record {
-      effect = call_settles b s t k line outcome free quiet ∙ sym (nothing-follows e) ∙ ap (λ (o : Option NewBase). and_then e (settle_effect o)) (sym none);
-      names = (quiet-call s t k line outcome free quiet).names;
-    }
+-- a row of a thread is changed, and no stage
+pub lively-row : (k : KernelState) (t core : ℕ) (row : Thread) → row.stage ≡ (thread_at (state_of k) t).stage → IsOnCore k.tables t → AreActive k.tables → IsLively (with_thread (state_of k) t row) (ByThread t core)
+lively-row k t core row same on active = record {
+  caller = ap is_active (same-set (λ (r : Thread). r.stage) k.tables.threads t t row no_thread same) ∙ on.active;
+  ready = λ u among. ap is_active (same-set (λ (r : Thread). r.stage) k.tables.threads t u row no_thread same) ∙ active u among;
+}
 
--- what follows from a call that is built
-pub followed_call : (b : PlainBoard) (s : State) (t core : ℕ) (call : Call) → is_built_call call ≡ true → IsFree s → ((u : ℕ) → length (filter (λ v. v == u) s.ready) ≤ 1) → IsFollowed b s t core call
-followed_call b s t core (Call.Delay ticks) built free once = quiet-follows b s t core (Call.Delay ticks) refl free (quiet-wait (begun s t) t core (InCall (Call.Delay ticks)) (Some ((begun s t).moment + ticks)) free)
-followed_call b s t core Call.Yield built free once = quiet-follows b s t core Call.Yield refl free (quiet-yield (begun s t) t core free)
-followed_call b s t core (Call.Startup name) built free once = quiet-follows b s t core (Call.Startup name) refl free (quiet-startup (begun s t) name free)
-followed_call b s t core (Call.Suspend name) built free once = quiet-follows b s t core (Call.Suspend name) refl free (quiet-suspend (begun s t) name (ByThread t core) free)
-followed_call b s t core (Call.Resume name) built free once = quiet-follows b s t core (Call.Resume name) refl free (quiet-resume (begun s t) name free)
-followed_call b s t core (Call.Kill name) built free once = quiet-follows b s t core (Call.Kill name) refl free (quiet-kill (begun s t) name free)
-followed_call b s t core (Call.SetPrio name prio) built free once = record { effect = prio_settles b s t ((thread_at s t).next + 1) (Line.Done (name_of (begun s t) t) (thread_at s t).next) name prio free once; names = prio-names s t ((thread_at s t).next + 1) (Line.Done (name_of (begun s t) t) (thread_at s t).next) name prio }
-followed_call b s t core Call.SchedLock built free once = quiet-follows b s t core Call.SchedLock refl free (quiet-sched_lock (begun s t) t core free)
-followed_call b s t core Call.SchedUnlock built free once = quiet-follows b s t core Call.SchedUnlock refl free (quiet-sched_unlock (begun s t) t core free)
-followed_call b s t core (Call.SemCreate name value order) built free once = quiet-follows b s t core (Call.SemCreate name value order) refl free (quiet-sem_create b (begun s t) name value order free)
-followed_call b s t core (Call.SemTake name timeout) built free once = quiet-follows b s t core (Call.SemTake name timeout) refl free (quiet-sem_take (begun s t) name timeout t core free)
-followed_call b s t core (Call.SemRelease name) built free once = quiet-follows b s t core (Call.SemRelease name) refl free (quiet-sem_release (begun s t) name free)
-followed_call b s t core (Call.EventCreate name order) built free once = quiet-follows b s t core (Call.EventCreate name order) refl free (quiet-event_create b (begun s t) name order free)
-followed_call b s t core (Call.EventSend name mask) built free once = quiet-follows b s t core (Call.EventSend name mask) refl free (quiet-event_send (begun s t) name mask free)
-followed_call b s t core (Call.EventRecv name mask all clear timeout) built free once = quiet-follows b s t core (Call.EventRecv name mask all clear timeout) refl free (quiet-event_recv (begun s t) name (record { mask = mask; all = all; clear = clear }) timeout t core free)
-followed_call b s t core (Call.Delete Class.Sem name) built free once = quiet-follows b s t core (Call.Delete Class.Sem name) refl free (quiet-sem_deletion (begun s t) name free)
-followed_call b s t core (Call.Delete Class.Event name) built free once = quiet-follows b s t core (Call.Delete Class.Event name) refl free (quiet-event_deletion (begun s t) name free)
-followed_call b s t core _ built free once = absurd cc
+pub lively-begun : (k : KernelState) (t core : ℕ) → IsOnCore k.tables t → AreActive k.tables → IsLively (begun (state_of k) t) (ByThread t core)
+lively-begun k t core on active = lively-row k t core (record (thread_at (state_of k) t) { next = (thread_at (state_of k) t).next + 1 }) refl on active
+
+-- the calls from which something may follow
+abbrev pub is_moving : Call → Bool
+is_moving (Call.Resume name) = true
+is_moving (Call.Kill name) = true
+is_moving (Call.SetPrio name prio) = true
+is_moving _ = false
+
+-- nothing follows from the others
+pub quiet-outcome : (b : PlainBoard) (s : State) (call : Call) (by : By) (attempt : Attempt) → is_built_call call ≡ true → is_moving call ≡ false → IsLively s by → IsQuietCall s (outcome_of b call s by attempt)
+quiet-outcome b s (Call.Delay ticks) by attempt built still on = quiet-delay s ticks by on
+quiet-outcome b s Call.Yield by attempt built still on = quiet-yield s by
+quiet-outcome b s (Call.Startup name) by attempt built still on = quiet-startup s name
+quiet-outcome b s (Call.Suspend name) by attempt built still on = quiet-suspend s name by on
+quiet-outcome b s (Call.Resume name) by attempt built still on = absurd cc
+quiet-outcome b s (Call.Kill name) by attempt built still on = absurd cc
+quiet-outcome b s (Call.SetPrio name prio) by attempt built still on = absurd cc
+quiet-outcome b s Call.SchedLock by attempt built still on = quiet-sched_lock s by
+quiet-outcome b s Call.SchedUnlock by attempt built still on = quiet-sched_unlock s by
+quiet-outcome b s Call.Lock by attempt built still on = quiet-lock s by
+quiet-outcome b s Call.Unlock by attempt built still on = quiet-unlock s by
+quiet-outcome b s (Call.SemCreate name value order) by attempt built still on = quiet-sem_create b s name value order
+quiet-outcome b s (Call.SemTake name timeout) by attempt built still on = quiet-sem_take s name timeout by on
+quiet-outcome b s (Call.SemRelease name) by attempt built still on = quiet-sem_release s name
+quiet-outcome b s (Call.EventCreate name order) by attempt built still on = quiet-event_create b s name order
+quiet-outcome b s (Call.EventSend name mask) by attempt built still on = quiet-event_send s name mask
+quiet-outcome b s (Call.EventRecv name mask all clear timeout) by attempt built still on = quiet-event_recv s name (record { mask = mask; all = all; clear = clear }) timeout by on
+quiet-outcome b s (Call.MbSend name word timeout) by attempt built still on = quiet-mb_send s name word timeout by attempt on
+quiet-outcome b s (Call.MbUrgent name word) by attempt built still on = quiet-mb_urgent s name word
+quiet-outcome b s (Call.MbRecv name timeout) by attempt built still on = quiet-mb_recv s name timeout by attempt on
+quiet-outcome b s (Call.MqSend name timeout message) by attempt built still on = quiet-mq_send s name message timeout by attempt on
+quiet-outcome b s (Call.MqUrgent name message) by attempt built still on = quiet-mq_urgent s name message
+quiet-outcome b s (Call.MqRecv name timeout) by attempt built still on = quiet-mq_recv s name timeout by attempt on
+quiet-outcome b s (Call.Delete Class.Sem name) by attempt built still on = quiet-sem_deletion s name
+quiet-outcome b s (Call.Delete Class.Event name) by attempt built still on = quiet-event_deletion s name
+quiet-outcome b s (Call.Delete Class.Mailbox name) by attempt built still on = quiet-mailbox_deletion s name
+quiet-outcome b s (Call.Delete Class.MsgQueue name) by attempt built still on = quiet-queue_deletion s name
+quiet-outcome b s (Call.TimerStart name) by attempt built still on = quiet-timer_start s name
+quiet-outcome b s (Call.TimerStop name) by attempt built still on = quiet-timer_stop s name
+quiet-outcome b s (Call.TimerSet name time) by attempt built still on = quiet-timer_set s name time
+quiet-outcome b s (Call.DevOpen name) by attempt built still on = quiet-dev_open s name
+quiet-outcome b s (Call.DevClose name) by attempt built still on = quiet-dev_close s name
+quiet-outcome b s (Call.DevRead name count) by attempt built still on = quiet-dev_read s name count by
+quiet-outcome b s (Call.DevWrite name text) by attempt built still on = quiet-dev_write s name text by
+quiet-outcome b s (Call.DevCtl name rate) by attempt built still on = quiet-dev_ctl s name rate
+quiet-outcome b s (Call.MpAlloc name timeout) by attempt built still on = quiet-mp_alloc s name timeout by on
+quiet-outcome b s (Call.MpFree name) by attempt built still on = quiet-mp_free s name by
+quiet-outcome b s _ by attempt built still on = absurd cc
+
+-- so such a call settles to what it does by itself
+pub quiet_settles : (b : PlainBoard) (k : KernelState) (call : Call) (by : Caller) (attempt : Attempt) → is_built_call call ≡ true → is_moving call ≡ false → IsThere by k.tables → AreActive k.tables → settled_outcome b call (state_of k) (plain_by (state_of k) by) attempt ≡ outcome_of b call (state_of k) (plain_by (state_of k) by) attempt
+quiet_settles b k call by attempt built still there active = call-quiet b (state_of k) (outcome_of b call (state_of k) (plain_by (state_of k) by) attempt) (quiet-outcome b (state_of k) call (plain_by (state_of k) by) attempt built still (lively k by there active))
+
+-- a call that does so much by itself does it with what follows, too
+pub settle_does : (b : PlainBoard) (k new : KernelState) (before after : Roomy Line) (answered : Answer) (few most : ℕ) (call : Call) (by : Caller) (attempt : Attempt) (o : Outcome) → settled_outcome b call (state_of k) (plain_by (state_of k) by) attempt ≡ o → few ≤ most
+    → Does k new before after answered few o → Does k new before after answered most (settled_outcome b call (state_of k) (plain_by (state_of k) by) attempt)
+settle_does b k new before after answered few most call by attempt o same le does = record {
+  state = does.state ∙ ap (λ (x : Outcome). x.effect.state) (sym same);
+  lines = does.lines ∙ ap (λ (x : Outcome). before.items ++ x.effect.lines) (sym same);
+  answer = does.answer ∙ ap (λ (x : Outcome). x.answer) (sym same);
+  limits = does.limits;
+  threads = does.threads;
+  numbers = does.numbers;
+  few = omega (arith, le, does.few);
+  out_room = does.out_room;
+}
+
+pub still_does : (b : PlainBoard) (k new : KernelState) (before after : Roomy Line) (answered : Answer) (few most : ℕ) (call made : Call) (by : Caller) (attempt : Attempt) → call ≡ made → few ≤ most → is_built_call made ≡ true → is_moving made ≡ false → IsThere by k.tables → AreActive k.tables
+    → Does k new before after answered few (outcome_of b made (state_of k) (plain_by (state_of k) by) attempt) → Does k new before after answered most (settled_outcome b call (state_of k) (plain_by (state_of k) by) attempt)
+still_does b k new before after answered few most call made by attempt is le built still there active does =
+    settle_does b k new before after answered few most call by attempt (outcome_of b made (state_of k) (plain_by (state_of k) by) attempt)
+    (ap (λ (x : Call). settled_outcome b x (state_of k) (plain_by (state_of k) by) attempt) is ∙ quiet_settles b k made by attempt built still there active) le does
+
+-- where nobody waits for a mutex, nothing follows from a resume, and where there is none, nothing from a kill
+pub resume_settles : (b : PlainBoard) (s : State) (call : Call) (name : List ℕ) (by : By) (attempt : Attempt) → call ≡ Call.Resume name → NobodyWaits s → settled_outcome b call s by attempt ≡ resume name s
+resume_settles b s call name by attempt is nobody = ap (λ (x : Call). settled_outcome b x s by attempt) is ∙ call-quiet b s (resume name s) (quiet-resume s name nobody)
+
+pub kill_settles : (b : PlainBoard) (s : State) (call : Call) (name : List ℕ) (by : By) (attempt : Attempt) → call ≡ Call.Kill name → HasNoMutex s → NobodyWaits s → settled_outcome b call s by attempt ≡ kill name s
+kill_settles b s call name by attempt is free nobody = ap (λ (x : Call). settled_outcome b x s by attempt) is ∙ call-quiet b s (kill name s) (quiet-kill s name free nobody)
+
+-- the calls on other objects than threads and mutexes are among them
+abbrev pub is_still : Subject → Bool
+is_still Subject.Thread = false
+is_still _ = true
+
+still : (call : Call) (x : Subject) → subject_of call ≡ Some x → is_still x ≡ true → is_moving call ≡ false
+still (Call.Resume name) Subject.Thread is quiet = absurd cc
+still (Call.Kill name) Subject.Thread is quiet = absurd cc
+still (Call.SetPrio name prio) Subject.Thread is quiet = absurd cc
+still (Call.Resume name) _ is quiet = absurd cc
+still (Call.Kill name) _ is quiet = absurd cc
+still (Call.SetPrio name prio) _ is quiet = absurd cc
+still _ x is quiet = refl
+
+pub object_settles : (b : PlainBoard) (k : KernelState) (call : Call) (by : Caller) (attempt : Attempt) (x : Subject) → subject_of call ≡ Some x → is_still x ≡ true → IsThere by k.tables → AreActive k.tables → settled_outcome b call (state_of k) (plain_by (state_of k) by) attempt ≡ outcome_of b call (state_of k) (plain_by (state_of k) by) attempt
+object_settles b k call by attempt x is quiet there active = quiet_settles b k call by attempt (ap is_some is) (still call x is quiet) there active
 
 -- what is so of the value that may be there
 pub if-some : {A : Type 0} (o : Option A) (P : A → Type 0) → ((x : A) → o ≡ Some x → P x) → IfSome o P
 if-some None P says = tt
 if-some (Some x) P says = says x refl
 
--- a call that changes a base priority shows nothing by itself
-base-alone : (b : PlainBoard) (call : Call) (s : State) (by : By) (attempt : Attempt) (change : NewBase) → new_base s call ≡ Some change → (outcome_of b call s by attempt).effect.lines ≡ []
-base-alone b (Call.SetPrio name prio) s by attempt change is = by_found (find_thread s name) where
-  act : ℕ → Outcome
-  act u = silent_success (with_thread s u (record (thread_at s u) { base = prio }))
+-- what a call leaves: no thread has another name, and there is no mutex
+pub record LeavesCall (s : State) (outcome : Outcome) : Type 0 where
+  pub names : KeepsNames s outcome.effect.state
+  pub free : HasNoMutex outcome.effect.state
 
-  by_found : (o : Option ℕ) → (found_outcome o (refusal s Code.Inval) act).effect.lines ≡ []
-  by_found None = refl
-  by_found (Some u) = refl
-base-alone b _ s by attempt change is = absurd cc
+quiet-leaves : (s : State) (outcome : Outcome) → HasNoMutex s → IsQuietCall s outcome → LeavesCall s outcome
+quiet-leaves s outcome free quiet = record { names = quiet.names; free = quiet-free s outcome.effect.state free quiet }
 
-moved-lines : (change : Option NewBase) (outcome : Outcome) → (moved_by change outcome).effect.lines ≡ outcome.effect.lines
-moved-lines None outcome = refl
-moved-lines (Some change) outcome = refl
+prio-leaves : (s : State) (name : List ℕ) (prio : ℕ) → HasNoMutex s → LeavesCall s (set_prio name prio s)
+prio-leaves s name prio free = by_found (find_thread s name) where
+  by_found : (o : Option ℕ) → LeavesCall s (found_outcome o (refusal s Code.Inval) (λ u. silent_success (with_thread s u (record (thread_at s u) { base = prio }))))
+  by_found None = record { names = λ v. refl; free = free }
+  by_found (Some u) = record { names = λ v. name-set s.threads u v (record (thread_at s u) { base = prio }) refl; free = free }
 
--- a move, and then a line, are a line with its move
-moved-shown : (t : ℕ) (line : Option Code → Line) (change : Option NewBase) (outcome : Outcome) → and_then (call_effect t line (moved_by change outcome)) (shown_effect change) ≡ and_then (call_effect t line outcome) (settle_effect change)
-moved-shown t line None outcome = refl
-moved-shown t line (Some change) outcome = by_answer outcome.answer where
-  by_answer : (answer : PlainAnswer) → and_then (call_effect t line (moved_by (Some change) (record outcome { answer = answer }))) (shown_effect (Some change)) ≡ and_then (call_effect t line (record outcome { answer = answer })) (settle_effect (Some change))
-  by_answer (Answers code) = refl
-  by_answer Waits = refl
+moving-leaves : (b : PlainBoard) (s : State) (call : Call) (by : By) (attempt : Attempt) → is_moving call ≡ true → HasNoMutex s → NobodyWaits s → LeavesCall s (outcome_of b call s by attempt)
+moving-leaves b s (Call.Resume name) by attempt moves free nobody = quiet-leaves s (resume name s) free (quiet-resume s name nobody)
+moving-leaves b s (Call.Kill name) by attempt moves free nobody = quiet-leaves s (kill name s) free (quiet-kill s name free nobody)
+moving-leaves b s (Call.SetPrio name prio) by attempt moves free nobody = prio-leaves s name prio free
+moving-leaves b s _ by attempt moves free nobody = absurd cc
 
-moved-answer : (change : Option NewBase) (outcome : Outcome) → (moved_by change outcome).answer ≡ outcome.answer
-moved-answer None outcome = refl
-moved-answer (Some change) outcome = refl
+pub outcome-leaves : (b : PlainBoard) (s : State) (call : Call) (by : By) (attempt : Attempt) → is_built_call call ≡ true → IsLively s by → HasNoMutex s → NobodyWaits s → LeavesCall s (outcome_of b call s by attempt)
+outcome-leaves b s call by attempt built on free nobody = by_test (is_moving call) refl where
+  by_test : (c : Bool) → is_moving call ≡ c → LeavesCall s (outcome_of b call s by attempt)
+  by_test false is = quiet-leaves s (outcome_of b call s by attempt) free (quiet-outcome b s call by attempt built is on)
+  by_test true is = moving-leaves b s call by attempt is free nobody
 
--- after such a call there is one line more
-pub base-call : (b : PlainBoard) (t core k : ℕ) (call : Call) (mid one : KernelState) (before after : Roomy Line) (answered : Answer) (most : ℕ) (change : NewBase) → new_base (state_of mid) call ≡ Some change
-    → Does mid one before after answered most (headed t (Line.Done (name_of (state_of mid) t) k) (moved_outcome b call (state_of mid) (ByThread t core) First))
-    → length after.items ≡ length before.items + 1
-base-call b t core k call mid one before after answered most change is does =
-    let outcome : Outcome = outcome_of b call (state_of mid) (ByThread t core) First in
-    omega (
-      arith,
-      ap length does.lines,
-      length-append before.items (headed t (Line.Done (name_of (state_of mid) t) k) (moved_by (new_base (state_of mid) call) outcome)).effect.lines,
-      ap length (moved-lines (new_base (state_of mid) call) outcome ∙ base-alone b call (state_of mid) (ByThread t core) First change is),
-    )
+-- a call in a state that differs from this one in a row, whose name, stage and base are the same, with its line and its answer
+pub headed-leaves : (s : State) (t : ℕ) (row : Thread) (line : Option Code → Line) (outcome : Outcome) → row.name ≡ (thread_at s t).name → LeavesCall (with_thread s t row) outcome → LeavesCall s (headed t line outcome)
+headed-leaves s t row line outcome named left = record {
+  names = λ u. (quiet-answer outcome.effect.state t outcome.answer).names u ∙ left.names u ∙ name-set s.threads t u row named;
+  free = quiet-free outcome.effect.state (headed t line outcome).effect.state left.free (quiet-answer outcome.effect.state t outcome.answer);
+}
 
--- what is so of a change that is there is so of it later
-pub some-kept : {A : Type 0} (o : Option A) (P Q : A → Type 0) → ((x : A) → P x → Q x) → IfSome o P → IfSome o Q
-some-kept None P Q says is = tt
-some-kept (Some x) P Q says is = says x is
-
--- what a call and what follows from it show
-pub call-few : (b : PlainBoard) (t core k : ℕ) (call : Call) (mid one new : KernelState) (before after last : Roomy Line) (answered : Answer) (most : ℕ) (change : Option NewBase) → change ≡ new_base (state_of mid) call
-    → Does mid one before after answered (2 + most) (headed t (Line.Done (name_of (state_of mid) t) k) (moved_outcome b call (state_of mid) (ByThread t core) First))
-    → Acts one new after last 1 (shown_effect change (state_of one)) → length last.items ≤ length before.items + (2 + most)
-call-few b t core k call mid one new before after last answered most None is does acts = omega (arith, ap length acts.lines, length-append after.items [], does.few)
-call-few b t core k call mid one new before after last answered most (Some change) is does acts = omega (arith, (base-call b t core k call mid one before after answered (2 + most) change (sym is) does), acts.few)
-
--- the call that a thread makes next, with what follows from it
-pub calls-next : (b : PlainBoard) (t core k : ℕ) (call : Call) (old mid one new : KernelState) (before after last : Roomy Line) (answered : Answer) (change : Option NewBase)
-    → is_built_call call ≡ true → ((u : ℕ) → length (filter (λ v. v == u) old.tables.ready) ≤ 1)
+-- a call that a thread makes, as the tables have it, with what follows
+pub calls-next : (b : PlainBoard) (t core k : ℕ) (call : Call) (old mid new : KernelState) (before after : Roomy Line) (answered : Answer)
     → state_of mid ≡ begun (state_of old) t → k ≡ (thread_at (state_of old) t).next → limits_of mid.tables ≡ limits_of old.tables → length mid.tables.threads ≡ length old.tables.threads → mid.numbers ≡ old.numbers
-    → change ≡ new_base (state_of mid) call
-    → Does mid one before after answered (2 + length mid.tables.threads) (headed t (Line.Done (name_of (state_of mid) t) k) (moved_outcome b call (state_of mid) (ByThread t core) First))
-    → Acts one new after last 1 (shown_effect change (state_of one)) → new.numbers ≡ one.numbers
-    → Does old new before last answered (2 + length old.tables.threads) (settled_call b t core call (state_of old))
-calls-next b t core k call old mid one new before after last answered change built once begins place limits threads numbers is does acts kept = record {
-  state = joined.state ∙ ap (λ (o : Outcome). o.effect.state) same;
-  lines = joined.lines ∙ ap (λ (o : Outcome). before.items ++ o.effect.lines) same;
-  answer = joined.answer ∙ ap (λ (o : Outcome). o.answer) same;
-  limits = joined.limits ∙ limits;
-  threads = joined.threads ∙ threads;
-  numbers = omega (arith, joined.numbers, numbers);
-  few = omega (arith, joined.few, threads);
-  out_room = joined.out_room;
+    → Does mid new before after answered (2 + length mid.tables.threads) (headed t (Line.Done (name_of (state_of mid) t) k) (settled_outcome b call (state_of mid) (ByThread t core) First))
+    → Does old new before after answered (2 + length old.tables.threads) (settled_call b t core call (state_of old))
+calls-next b t core k call old mid new before after answered begins place limits threads numbers does = record {
+  state = does.state ∙ ap (λ (o : Outcome). o.effect.state) same;
+  lines = does.lines ∙ ap (λ (o : Outcome). before.items ++ o.effect.lines) same;
+  answer = does.answer ∙ ap (λ (o : Outcome). o.answer) same;
+  limits = does.limits ∙ limits;
+  threads = does.threads ∙ threads;
+  numbers = omega (arith, does.numbers, numbers);
+  few = omega (arith, does.few, threads);
+  out_room = does.out_room;
 } where
   s : State
   s = state_of old
 
-  -- by the call as the tables do it, with the line that is left
-  acted : State → ℕ → Option NewBase → Outcome
-  acted m j o = record { effect = and_then (call_effect t (Line.Done (name_of m t) j) (moved_outcome b call m (ByThread t core) First)) (shown_effect o); answer = (moved_outcome b call m (ByThread t core) First).answer }
+  made : State → ℕ → Outcome
+  made m j = headed t (Line.Done (name_of m t) j) (settled_outcome b call m (ByThread t core) First)
 
-  followed : State → ℕ → Outcome
-  followed m j = record { effect = and_then (call_effect t (Line.Done (name_of m t) j) (outcome_of b call m (ByThread t core) First)) (settle_effect (new_base m call)); answer = (outcome_of b call m (ByThread t core) First).answer }
-
-  joined : Does mid new before last answered (2 + length mid.tables.threads) (acted (state_of mid) k change)
-  joined = does-then mid one new before after last answered (2 + length mid.tables.threads) 1 _ (shown_effect change) does acts kept (call-few b t core k call mid one new before after last answered (length mid.tables.threads) change is does acts)
-
-  same : acted (state_of mid) k change ≡ settled_call b t core call s
+  same : made (state_of mid) k ≡ settled_call b t core call s
   same =
-      ap (λ (o : Option NewBase). acted (state_of mid) k o) is
-      ∙ ap (λ (e : Effect). record { effect = e; answer = (moved_outcome b call (state_of mid) (ByThread t core) First).answer }) (moved-shown t (Line.Done (name_of (state_of mid) t) k) (new_base (state_of mid) call) (outcome_of b call (state_of mid) (ByThread t core) First))
-      ∙ ap (λ (answer : PlainAnswer). record { effect = (followed (state_of mid) k).effect; answer = answer }) (moved-answer (new_base (state_of mid) call) (outcome_of b call (state_of mid) (ByThread t core) First))
-      ∙ ap (λ (m : State). followed m k) begins
-      ∙ ap (followed (begun s t)) place
-      ∙ ap (λ (e : Effect). record { effect = e; answer = (next_call b t core call s).answer }) (sym (followed_call b s t core call built refl once).effect)
-
--- a call on other objects than threads changes no base priority
-pub sem_moves : (b : PlainBoard) (call : Call) (s : State) (by : By) (attempt : Attempt) → subject_of call ≡ Some Subject.Sem → moved_outcome b call s by attempt ≡ outcome_of b call s by attempt
-sem_moves b (Call.SetPrio name prio) s by attempt is = absurd cc
-sem_moves b _ s by attempt is = refl
-
-pub event_moves : (b : PlainBoard) (call : Call) (s : State) (by : By) (attempt : Attempt) → subject_of call ≡ Some Subject.Event → moved_outcome b call s by attempt ≡ outcome_of b call s by attempt
-event_moves b (Call.SetPrio name prio) s by attempt is = absurd cc
-event_moves b _ s by attempt is = refl
+      ap (λ (m : State). made m k) begins
+      ∙ ap (made (begun s t)) place
+      ∙ ap (λ (e : Effect). record { effect = e; answer = (next_call b t core call s).answer })
+      (sym (call-settled b s (begun s t) t (Line.Done (name_of (begun s t) t) (thread_at s t).next) (outcome_of b call (begun s t) (ByThread t core) First)
+      (alike-back (begun s t) s (row-alike s t (record (thread_at s t) { next = (thread_at s t).next + 1 }) refl refl refl))))

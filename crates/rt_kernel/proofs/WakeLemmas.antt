@@ -18,15 +18,14 @@ use Rattle.rt_plain.proofs.kernel.Invariant.{is-there, waiting-open}
 use Rattle.rt_plain.proofs.kernel.TallyLemmas.{all-weaker, same-set, here-set, length-set_at}
 use Rattle.rt_plain.proofs.kernel.WakeLemmas.{waiters-wait}
 use Rattle.rt_kernel.specs.declared.state.State.{State as KernelState}
-use Rattle.kernel_tables.specs.Tabled.{Tabled, line_of, woken_row, given_row, all_woken, all_given}
+use Rattle.kernel_tables.specs.Tabled.{woken_row, given_row, all_woken, all_given}
+use Rattle.mutex_tables.specs.MutexTabled.{MutexTabled}
 use Rattle.kernel_tables.specs.Threads.{with_row, row_at}
 use Rattle.rt_kernel.specs.View.{state_of}
 use Rattle.rt_kernel.specs.Wake.{followed, follow_effect}
-use Rattle.rt_kernel.proofs.CurLemmas.{IsFree}
-use Rattle.rt_kernel.proofs.WaiterLemmas.{waiters-line}
 
 -- the state on other tables
-abbrev pub on : KernelState → Tabled → State
+abbrev pub on : KernelState → MutexTabled → State
 on r k = state_of (record r { tables = k })
 
 -- a change of a row keeps all names
@@ -133,7 +132,6 @@ given-length [] threads = refl
 given-length (w ∷ ws) threads = given-length ws (with_row threads w.0 (given_row w.1)) ∙ length-set_at threads w.0 (given_row w.1 (row_at threads w.0))
 
 -- who waits in a list is there
-pub line-there : (s : State) (order : WaitOrder) (p : Call → Bool) → IsFree s → AllByRecursion (λ t. t < length s.threads) (line_of s.threads order p)
-line-there s order p free =
-    subst (AllByRecursion (λ t. t < length s.threads)) (waiters-line s order p free)
-    (all-weaker (λ t. is_waiting (thread_at s t).stage ≡ true) (λ t. t < length s.threads) (waiters s order p) (λ t waits. is-there s.threads t (waiting-open (thread_at s t).stage waits)) (waiters-wait s order p))
+pub line-there : (s : State) (order : WaitOrder) (p : Call → Bool) → AllByRecursion (λ t. t < length s.threads) (waiters s order p)
+line-there s order p =
+    all-weaker (λ t. is_waiting (thread_at s t).stage ≡ true) (λ t. t < length s.threads) (waiters s order p) (λ t waits. is-there s.threads t (waiting-open (thread_at s t).stage waits)) (waiters-wait s order p)

@@ -1,9 +1,11 @@
 -- Who makes a call, and for which time, as the definitions have it.
-use Rattle.std.specs.Prelude.{ℕ, ◌≡◌, ◌<◌, false, ⊤, length, List, [], slice_get, unwrap_or}
+use Rattle.std.specs.Prelude.{ℕ, ◌≡◌, ◌<◌, true, false, ⊤, length, List, [], slice_get, unwrap_or}
 use Rattle.std.specs.Option.{option_map}
 use Rattle.rt_plain.specs.kernel.State.{State, is_among}
+use Rattle.rt_plain.specs.kernel.Sound.{is_active}
 use Rattle.rt_plain.specs.kernel.Outcome.{By, ByThread, ByTimer, Attempt as PlainAttempt, First, Again}
-use Rattle.kernel_tables.specs.Tabled.{Tabled}
+use Rattle.kernel_tables.specs.Threads.{row_at}
+use Rattle.mutex_tables.specs.MutexTabled.{MutexTabled}
 use Rattle.rt_kernel.specs.declared.caller.Caller.{Caller}
 use Rattle.rt_kernel.specs.declared.caller.Attempt.{Attempt}
 
@@ -21,7 +23,13 @@ abbrev pub plain_attempt : Attempt → PlainAttempt
 plain_attempt Attempt.First = First
 plain_attempt (Attempt.Again due) = Again due
 
--- a thread that makes a call is there, and runs, so that it isn't ready
-abbrev pub IsThere : Caller → Tabled → Type 0
-IsThere (Caller.Thread t core) k = (t < length k.threads) × (is_among k.ready t ≡ false)
+-- a thread on a core: it is there, active, and not ready
+pub record IsOnCore (k : MutexTabled) (r : ℕ) : Type 0 where
+  pub there : r < length k.threads
+  pub active : is_active (row_at k.threads r).stage ≡ true
+  pub unready : is_among k.ready r ≡ false
+
+-- a thread that makes a call is there and active, and runs, so that it isn't ready
+abbrev pub IsThere : Caller → MutexTabled → Type 0
+IsThere (Caller.Thread t core) k = IsOnCore k t
 IsThere (Caller.Timer timer) k = ⊤

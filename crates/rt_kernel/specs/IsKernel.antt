@@ -8,6 +8,7 @@ use Rattle.rt_plain.specs.kernel.Kept.{Frame, Kept}
 use Rattle.rt_plain.proofs.kernel.TickLemmas.{less-fits}
 use Rattle.rt_kernel.specs.declared.kernel.Kernel.TheInside.{Inside}
 use Rattle.rt_kernel.specs.Built.{IsBuilt}
+use Rattle.rt_kernel.specs.Mutexes.{HasNoMutex}
 use Rattle.rt_kernel.specs.Limits.{limits_of, board_limits}
 use Rattle.rt_kernel.specs.View.{state_of}
 
@@ -19,9 +20,10 @@ frame_of b s = record { board = b; now = s.moment; low = s.moment; few = tally (
 abbrev pub IsInOrder : PlainBoard → State → Type 0
 IsInOrder b s = (t : ℕ) (def : ThreadDef) → slice_get b.threads t ≡ Some def → (thread_at s t).name ≡ def.name
 
--- the board is built, there is room for as many objects as it says, threads are in its order, and what the rules of the kernel keep holds of the state
+-- the board is built, there is room for as many objects as it says and no mutex yet, threads are in its order, and what the rules of the kernel keep holds of the state
 pub record IsKernel (k : Inside) : Type 0 where
   pub built : IsBuilt k.board
   pub limits : limits_of k.state.tables ≡ board_limits k.board
+  pub free : HasNoMutex (state_of k.state)
   pub order : IsInOrder k.board (state_of k.state)
   pub kept : Kept (frame_of k.board (state_of k.state)) (state_of k.state)

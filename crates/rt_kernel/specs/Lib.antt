@@ -1,3 +1,5 @@
+pub mod Actions
+pub mod Again
 pub mod Answer
 pub mod Built
 pub mod Caller
@@ -7,10 +9,15 @@ pub mod HasRoom
 pub mod IsKernel
 pub mod Limits
 pub mod MayWait
-pub mod NewBase
+pub mod Mutexes
 pub mod NextCall
+pub mod Notice
 pub mod Plain
 pub mod PlainKernel
+pub mod Settles
 pub mod Switched
+pub mod Told
 pub mod View
 pub mod Wake
+pub mod Written
+pub mod Blocks

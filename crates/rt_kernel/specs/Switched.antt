@@ -2,12 +2,9 @@
 use Rattle.std.specs.Prelude.{ℕ, ◌≡◌, ◌<◌, true, false, not, ◌&&◌, [], ◌∷◌, Option, Some, None, length, if◌then◌else◌}
 use Rattle.rt_plain.specs.declared.line.Line.{Line}
 use Rattle.rt_plain.specs.kernel.State.{State, thread_at, running_on, is_among}
-use Rattle.rt_plain.specs.kernel.Sound.{is_active}
 use Rattle.rt_plain.specs.kernel.Pick.{pick}
 use Rattle.rt_plain.specs.kernel.Effects.{Effect, no_effect, name_of}
 use Rattle.rt_plain.specs.kernel.Steps.{with_running, preempted_state, is_preemptible, takes_from}
-use Rattle.kernel_tables.specs.Tabled.{Tabled}
-use Rattle.kernel_tables.specs.Threads.{row_at}
 
 -- a free core runs the thread
 abbrev pub run_effect : State → ℕ → ℕ → Effect
@@ -32,9 +29,3 @@ switched s core = switched_by s core (running_on s core) (pick s core)
 abbrev pub effect_or : State → Option Effect → Effect
 effect_or s None = no_effect s
 effect_or s (Some e) = e
-
--- a thread on a core: it is there, active, and not ready
-pub record IsOnCore (k : Tabled) (r : ℕ) : Type 0 where
-  pub there : r < length k.threads
-  pub active : is_active (row_at k.threads r).stage ≡ true
-  pub unready : is_among k.ready r ≡ false

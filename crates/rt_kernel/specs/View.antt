@@ -1,8 +1,6 @@
 -- The plain state that the kernel's state stands for. What isn't built yet is constant.
-use Rattle.std.specs.Prelude.{[], ◌∷◌, None, replicate}
-use Rattle.rt_base.specs.declared.codes.RunMode.{RunMode}
+use Rattle.std.specs.Prelude.{[], None}
 use Rattle.rt_plain.specs.kernel.State.{State}
-use Rattle.rt_plain.specs.kernel.Opening.{new_console}
 use Rattle.rt_kernel.specs.declared.state.State.{State as KernelState}
 
 -- the state
@@ -13,21 +11,21 @@ state_of k = record {
   threads = k.tables.threads;
   sems = k.tables.sems;
   events = k.tables.events;
-  mutexes = [];
-  holdings = [];
-  mailboxes = [];
-  queues = [];
-  pools = [];
+  mutexes = k.tables.mutexes;
+  holdings = k.tables.holdings;
+  mailboxes = k.tables.mailboxes;
+  queues = k.tables.queues;
+  pools = k.pools;
   timers = k.armed.timers;
-  devices = new_console ∷ [];
+  devices = k.devices.devices;
   ready = k.tables.ready;
-  running = k.running ∷ [];
+  running = k.cores.running;
   armed = k.armed.rows;
   works = [];
-  votes = replicate 6 0;
-  run_mode = RunMode.Normal;
-  nest = None;
+  votes = k.votes.votes;
+  run_mode = k.run_mode;
+  nest = k.cores.nest;
   shell_line = [];
-  arrivals = [];
+  arrivals = k.devices.arrivals;
   halt = None;
 }

@@ -1,10 +1,10 @@
-use rt_base::{CoreNo, ThreadNo, TimerNo};
+use rt_base::{CoreNo, ObjNo, ThreadNo};
 
 /// Who makes a call: a thread on a core, or a timer.
 #[derive(Clone, Copy, Debug, PartialEq, Eq)]
 pub enum Caller {
     Thread(ThreadNo, CoreNo),
-    Timer(TimerNo),
+    Timer(ObjNo),
 }
 
 /// Whether a call is made for the first time, or again after a wait that was due at a moment, if at any.

@@ -75,7 +75,7 @@ impl State {
     }
 
     // What a receiver got is the last value of the thread that makes the call.
-    fn take_value(&mut self, by: Caller, value: u32)
+    pub fn take_value(&mut self, by: Caller, value: u32)
         requires { IsThere by self.old.tables }
         ensures state { state_of self.new ≡ with_value (state_of self.old) (plain_by (state_of self.old) by) value }
         ensures limits { limits_of self.new.tables ≡ limits_of self.old.tables }
@@ -83,7 +83,7 @@ impl State {
         ensures numbers { self.new.numbers ≡ self.old.numbers }
     {
         if let Caller::Thread(t, _) = by {
-            let mut vars = self.tables.threads().vars(t);
+            let mut vars = self.tables.vars(t);
             vars.value = value;
             self.tables.set_vars(t, vars);
         }
@@ -112,7 +112,7 @@ impl State {
             }
             Some(None) => {
                 let call = Call::EventRecv(name.copy(), want.mask, want.all, want.clear, timeout);
-                self.wait_for(by, call, timeout)
+                self.wait_for(by, call, timeout, Code::Timeout)
             }
         }
     }
@@ -123,7 +123,7 @@ impl State {
         ensures { Does self.old self.new out.old out.new result (length self.old.tables.threads) (event_send name.now mask (state_of self.old)) }
     {
         // There are at most 256 threads, so the ready list has room for all of them.
-        let _ = self.tables.threads().len();
+        let _ = self.tables.thread_count();
         if !self.tables.send(name, mask, &mut self.woken) {
             return Answer::Code(Code::Inval);
         }
@@ -137,7 +137,7 @@ impl State {
         ensures { Does self.old self.new out.old out.new result (length self.old.tables.threads) (event_deletion name.now (state_of self.old)) }
     {
         // There are at most 256 threads, so the ready list has room for all of them.
-        let _ = self.tables.threads().len();
+        let _ = self.tables.thread_count();
         if !self.tables.delete_event(name, &mut self.waited) {
             return Answer::Code(Code::Inval);
         }

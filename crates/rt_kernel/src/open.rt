@@ -5,8 +5,15 @@ ghost use Rattle.rt_kernel.specs.Limits.{limits_of, board_limits};
 ghost use Rattle.rt_kernel.specs.View.{state_of};
 
 use crate::state::State;
-use kernel_tables::{Tables, ThreadList, WokenThreads};
+use crate::told::Told;
+use kernel_cores::Cores;
+use kernel_devices::Devices;
+use kernel_pools::Pools;
+use kernel_tables::{ThreadList, WokenThreads};
 use kernel_timers::Alarms;
+use mutex_tables::MutexTables;
+use pm_core::Votes;
+use rt_base::RunMode;
 use rt_plain::Board;
 use std::alloc::{AllocError, Global};
 
@@ -18,17 +25,28 @@ impl State {
         ensures state { IfOk result (λ k. state_of k ≡ open_state board.now) }
         ensures limits { IfOk result (λ k. limits_of k.tables ≡ board_limits board.now) }
     {
-        let armed = Alarms::open(alloc, board.timers.as_slice())?;
+        let mut armed = Alarms::open(alloc, board.timers.as_slice())?;
+        let numbers = armed.start(board.timers.as_slice());
+        let pools = Pools::open(alloc, board)?;
         let waited = ThreadList::new(alloc)?;
         let woken = WokenThreads::new(alloc)?;
-        let tables = Tables::open(alloc, board)?;
+        let cores = Cores::new(alloc, board.cores)?;
+        let told = Told::new(alloc)?;
+        let devices = Devices::open(alloc, board)?;
+        let tables = MutexTables::open(alloc, board)?;
+        let votes = Votes::new(board.default_mode);
         Ok(State {
-            numbers: 0,
+            numbers,
             tables,
-            running: None,
+            cores,
             armed,
+            devices,
+            pools,
+            votes,
+            run_mode: RunMode::Normal,
             waited,
             woken,
+            told,
         })
     }
 }

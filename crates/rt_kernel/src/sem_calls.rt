@@ -1,4 +1,4 @@
-ghost use Rattle.std.specs.Prelude.{◌≡◌, ◌+◌, Some, true, length};
+ghost use Rattle.std.specs.Prelude.{◌≡◌, ◌+◌, ◌<◌, Some, true, length};
 ghost use Rattle.rt_plain.specs.kernel.Calls.{outcome_of};
 ghost use Rattle.rt_plain.specs.kernel.SemCalls.{sem_create, sem_take, sem_release};
 ghost use Rattle.rt_plain.specs.kernel.DeleteCall.{sem_deletion};
@@ -79,13 +79,16 @@ impl State {
         match self.tables.take_sem(name) {
             None => Answer::Code(Code::Inval),
             Some(true) => Answer::Code(Code::Ok),
-            Some(false) => self.wait_for(by, Call::SemTake(name.copy(), timeout), timeout),
+            Some(false) => {
+                let call = Call::SemTake(name.copy(), timeout);
+                self.wait_for(by, call, timeout, Code::Timeout)
+            }
         }
     }
 
     // The first waiter of the semaphore wakes, or its value is one more.
-    fn sem_release(&mut self, name: &Name, out: &mut Lines) -> Answer
-        requires room { HasRoom self.old out.old 1 }
+    pub fn sem_release(&mut self, name: &Name, out: &mut Lines) -> Answer
+        requires lines { length out.old.items < out.old.room }
         ensures { Does self.old self.new out.old out.new result 1 (sem_release name.now (state_of self.old)) }
     {
         let Some(released) = self.tables.release_sem(name) else {
@@ -107,7 +110,7 @@ impl State {
         ensures { Does self.old self.new out.old out.new result (length self.old.tables.threads) (sem_deletion name.now (state_of self.old)) }
     {
         // There are at most 256 threads, so the ready list has room for all of them.
-        let _ = self.tables.threads().len();
+        let _ = self.tables.thread_count();
         if !self.tables.delete_sem(name, &mut self.waited) {
             return Answer::Code(Code::Inval);
         }

@@ -1,14 +1,15 @@
-ghost use Rattle.std.specs.Prelude.{◌≡◌, ◌+◌, ◌<◌, ◌≤◌, ◌^◌, ◌++◌, [], All, true, false, length};
+ghost use Rattle.std.specs.Prelude.{◌≡◌, ◌+◌, ◌<◌, ◌≤◌, ◌^◌, ◌++◌, [], All, None, true, false, length};
 ghost use Rattle.std.specs.List.{AllByRecursion};
-ghost use Rattle.rt_plain.specs.kernel.State.{InCall, is_among};
+ghost use Rattle.rt_plain.specs.kernel.Priority.{mutex_of_call};
+ghost use Rattle.rt_plain.specs.kernel.State.{InCall};
 ghost use Rattle.rt_plain.specs.kernel.Outcome.{First, may_not_wait, wait_outcome, wait_or_refusal};
 ghost use Rattle.rt_plain.specs.kernel.Effects.{each_effect};
 ghost use Rattle.rt_kernel.specs.Answer.{plain_answer};
-ghost use Rattle.rt_kernel.specs.Caller.{plain_by, IsThere};
+ghost use Rattle.rt_kernel.specs.Caller.{plain_by, IsOnCore, IsThere};
 ghost use Rattle.rt_kernel.specs.Limits.{limits_of};
 ghost use Rattle.rt_kernel.specs.MayWait.{IsFree, MayWait};
 ghost use Rattle.rt_plain.specs.kernel.Sound.{is_timeout};
-ghost use Rattle.kernel_tables.specs.Tabled.{knows};
+ghost use Rattle.mutex_tables.specs.Known.{knows};
 ghost use Rattle.rt_kernel.specs.View.{state_of};
 ghost use Rattle.rt_kernel.specs.Wake.{follow_effect};
 
@@ -19,23 +20,22 @@ use rt_base::{Code, CoreNo, ThreadNo};
 use rt_plain::{Call, Lines};
 
 impl State {
-    // Whether a thread may not wait on its core: it has a scheduler lock. No core has the lock over all cores yet.
+    // Whether a thread may not wait on its core: it has a scheduler lock, or the core the lock over all cores.
     pub fn may_not_wait(&self, t: ThreadNo, core: CoreNo) -> bool
         requires { t < length self.now.tables.threads }
         ensures { result ≡ may_not_wait (state_of self.now) t core }
     {
-        let _core = core;
-        0 < self.tables.threads().locks(t)
+        0 < self.tables.locks(t) || self.cores.holds(core)
     }
 
     // The thread waits in a call until a moment, if one is given, where it may wait.
     pub fn try_wait(&mut self, t: ThreadNo, core: CoreNo, call: Call, due: Option<u64>) -> Answer
-        requires there { t < length self.old.tables.threads }
-        requires unready { is_among self.old.tables.ready t ≡ false }
+        requires runs { IsOnCore self.old.tables t }
         requires may { MayWait self.old.armed t due }
         requires latest { All (λ row. row.number < self.old.numbers) self.old.armed.rows }
         requires number { self.old.numbers + 2 < 2 ^ 64 }
         requires known { knows self.old.tables call ≡ true }
+        requires other { mutex_of_call call ≡ None }
         ensures state { state_of self.new ≡ (wait_outcome (state_of self.old) t core (InCall call) due).effect.state }
         ensures answer { plain_answer result ≡ (wait_outcome (state_of self.old) t core (InCall call) due).answer }
         ensures limits { limits_of self.new.tables ≡ limits_of self.old.tables }
@@ -49,8 +49,8 @@ impl State {
         Answer::Waits
     }
 
-    // A call that can't be done now: it is refused where a timer makes it or its timeout is 0, and else waits.
-    pub fn wait_for(&mut self, by: Caller, call: Call, timeout: Option<u32>) -> Answer
+    // A call that can't be done now: it is refused with this code where a timer makes it or its timeout is 0, and else waits.
+    pub fn wait_for(&mut self, by: Caller, call: Call, timeout: Option<u32>, code: Code) -> Answer
         requires there { IsThere by self.old.tables }
         requires free { IsFree self.old.armed by }
         requires span { is_timeout timeout ≡ true }
@@ -58,18 +58,19 @@ impl State {
         requires moment { self.old.armed.moment ≤ 1099511627775 }
         requires number { self.old.numbers + 2 < 2 ^ 64 }
         requires known { knows self.old.tables call ≡ true }
-        ensures state { state_of self.new ≡ (wait_or_refusal (state_of self.old) (plain_by (state_of self.old) by) First call timeout Code.Timeout).effect.state }
-        ensures answer { plain_answer result ≡ (wait_or_refusal (state_of self.old) (plain_by (state_of self.old) by) First call timeout Code.Timeout).answer }
-        ensures silent { (wait_or_refusal (state_of self.old) (plain_by (state_of self.old) by) First call timeout Code.Timeout).effect.lines ≡ [] }
+        requires other { mutex_of_call call ≡ None }
+        ensures state { state_of self.new ≡ (wait_or_refusal (state_of self.old) (plain_by (state_of self.old) by) First call timeout code).effect.state }
+        ensures answer { plain_answer result ≡ (wait_or_refusal (state_of self.old) (plain_by (state_of self.old) by) First call timeout code).answer }
+        ensures silent { (wait_or_refusal (state_of self.old) (plain_by (state_of self.old) by) First call timeout code).effect.lines ≡ [] }
         ensures limits { limits_of self.new.tables ≡ limits_of self.old.tables }
         ensures threads { length self.new.tables.threads ≡ length self.old.tables.threads }
         ensures numbers { self.new.numbers ≤ self.old.numbers + 2 }
     {
         let Caller::Thread(t, core) = by else {
-            return Answer::Code(Code::Timeout);
+            return Answer::Code(code);
         };
         if let Some(0) = timeout {
-            return Answer::Code(Code::Timeout);
+            return Answer::Code(code);
         }
         let due = timeout.map(|ticks| self.armed.moment() + ticks as u64);
         self.try_wait(t, core, call, due)

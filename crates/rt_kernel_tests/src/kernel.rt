@@ -91,6 +91,7 @@ fn step<L: Ledger>(
     kernel.know_kernel();
     assert!(rt; kernel.running(CORE) == Some(thread));
     assert!(rt; kernel.next(thread) > 0);
+    assert!(rt; !kernel.retries(thread));
     assert!(rt; kernel.numbers() < 100);
     assert!(rt; out.spare() >= 2 + kernel.board().threads.len());
     match kernel.next_statement(thread) {
@@ -107,8 +108,10 @@ fn tick<L: Ledger>(rt: &impl Abort, kernel: &mut Kernel, out: &mut Lines, steps:
     assert!(rt; kernel.take_due(steps).is_none());
     assert!(rt; kernel.moment() < 100);
     kernel.begin_tick();
-    assert!(rt; out.spare() >= 2);
     if let Some(no) = kernel.take_due(steps) {
+        kernel.know_kernel();
+        assert!(rt; kernel.numbers() < 100);
+        assert!(rt; out.spare() >= 2 + kernel.board().threads.len());
         kernel.fire(no, out, steps);
     }
 }

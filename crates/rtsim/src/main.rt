@@ -30,9 +30,9 @@ fn given_words<R: Env + AllocGlobal>(rt: &R) -> Result<Vec<String>, AllocError> 
 // Says that there was no memory for the words, and gives that status.
 fn refuse<E: Sink>(err: &mut E) -> u8
     ensures status { result ≡ 9 }
-    ensures told { TellsEnding None None [] result (E.holds err.old) (E.holds err.new) (E.faults err.old) (E.faults err.new) }
+    ensures told { TellsEnding None None (λ wanted. []) result (E.holds err.old) (E.holds err.new) (E.faults err.old) (E.faults err.new) }
 {
-    let _ = Ending::Memory.say("", err);
+    let _ = Ending::Memory.say("", "", err);
     Ending::Memory.status()
 }
 
@@ -42,7 +42,7 @@ fn answer<R: Env + AllocGlobal + Files, O: Sink, E: Sink>(
     out: &mut O,
     err: &mut E,
 ) -> ExitCode
-    ensures told { (words : List (String Global)) × TellsEnding (command_of words) None (named_file words) (exit_status result) (E.holds err.old) (E.holds err.new) (E.faults err.old) (E.faults err.new) }
+    ensures told { (words : List (String Global)) × TellsEnding (command_of words) None (λ wanted. named_file wanted words) (exit_status result) (E.holds err.old) (E.holds err.new) (E.faults err.old) (E.faults err.new) }
     ensures kept { (exit_status result ≡ 0 → ⊥) → (exit_status result ≡ 5 → ⊥) → out.new ≡ out.old }
 {
     let words = match given_words(rt) {

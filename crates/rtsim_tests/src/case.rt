@@ -3,32 +3,24 @@ use std::alloc::{AllocError, Global};
 use std::io::Write;
 use std::{io, str};
 
-/// The words of a command, and its file.
+// Lines of a file, the last of which may have no newline.
 #[derive(Drop)]
-pub struct Case {
-    header: Vec<u8>,
-    words: Vec<String>,
-    file: Vec<u8>,
+struct Lines {
+    bytes: Vec<u8>,
     ends_in_newline: bool,
 }
 
-impl Case {
-    /// The case that begins with this line, if one does.
-    pub fn begun_by(alloc: Global, line: &[u8]) -> Result<Option<Case>, AllocError> {
-        let ends_in_newline = line.starts_with(b"== ");
-        if !ends_in_newline && !line.starts_with(b"=- ") {
-            return Ok(None);
-        }
-        Ok(Some(Case {
-            header: Vec::from_slice(alloc, line)?,
-            words: words_of(alloc, &line[3..])?,
-            file: Vec::new(alloc),
+impl Lines {
+    // No lines.
+    fn new(alloc: Global, ends_in_newline: bool) -> Lines {
+        Lines {
+            bytes: Vec::new(alloc),
             ends_in_newline,
-        }))
+        }
     }
 
-    /// Adds a line to the file. `*N LINE` adds LINE N times, with the numbers from 0 on for `#` and newlines for `|`.
-    pub fn add_line(&mut self, alloc: Global, line: &[u8]) -> Result<(), AllocError> {
+    // Adds a line. `*N LINE` adds LINE N times, with the numbers from 0 on for `#` and newlines for `|`.
+    fn add(&mut self, alloc: Global, line: &[u8]) -> Result<(), AllocError> {
         let Some((times, repeated)) = repetition(line) else {
             return self.add_bytes(line);
         };
@@ -43,16 +35,53 @@ impl Case {
 
     // Adds some bytes and a newline.
     fn add_bytes(&mut self, bytes: &[u8]) -> Result<(), AllocError> {
-        self.file.extend_from_slice(bytes)?;
-        self.file.extend_from_slice(b"\n")
+        self.bytes.extend_from_slice(bytes)?;
+        self.bytes.extend_from_slice(b"\n")
     }
 
     // The bytes of the file.
-    fn bytes(&self) -> &[u8] {
-        if self.ends_in_newline || self.file.is_empty() {
-            return self.file.as_slice();
+    fn as_bytes(&self) -> &[u8] {
+        if self.ends_in_newline || self.bytes.is_empty() {
+            return self.bytes.as_slice();
         }
-        &self.file[..self.file.len() - 1]
+        &self.bytes[..self.bytes.len() - 1]
+    }
+}
+
+/// The words of a command, and its files.
+#[derive(Drop)]
+pub struct Case {
+    header: Vec<u8>,
+    words: Vec<String>,
+    board: Lines,
+    trace: Option<Lines>,
+}
+
+impl Case {
+    /// The case that begins with this line, if one does.
+    pub fn begun_by(alloc: Global, line: &[u8]) -> Result<Option<Case>, AllocError> {
+        let ends_in_newline = line.starts_with(b"== ");
+        if !ends_in_newline && !line.starts_with(b"=- ") {
+            return Ok(None);
+        }
+        Ok(Some(Case {
+            header: Vec::from_slice(alloc, line)?,
+            words: words_of(alloc, &line[3..])?,
+            board: Lines::new(alloc, ends_in_newline),
+            trace: None,
+        }))
+    }
+
+    /// Adds a line to the file that stands open. `-- t` opens the file `t`, and `-- t-` one without a newline at its end.
+    pub fn add_line(&mut self, alloc: Global, line: &[u8]) -> Result<(), AllocError> {
+        if line == b"-- t".as_slice() || line == b"-- t-".as_slice() {
+            self.trace = Some(Lines::new(alloc, line.len() == 4));
+            return Ok(());
+        }
+        match &mut self.trace {
+            Some(trace) => trace.add(alloc, line),
+            None => self.board.add(alloc, line),
+        }
     }
 }
 
@@ -76,7 +105,11 @@ fn words_of(alloc: Global, line: &[u8]) -> Result<Vec<String>, AllocError> {
 
 /// Writes the line that the case began with, its status, what it wrote, and behind `|` its message.
 pub fn tell<W: Write>(alloc: Global, case: &Case, to: &mut W) -> io::Result<()> {
-    let told = perform(alloc, &case.words, case.bytes(), GOOD)?;
+    let trace = match &case.trace {
+        Some(trace) => trace.as_bytes(),
+        None => b"",
+    };
+    let told = perform(alloc, &case.words, trace, case.board.as_bytes(), GOOD)?;
     to.write_all(&case.header)?;
     writeln!(to, "\nstatus {}", told.status)?;
     to.write_all(told.out.bytes())?;

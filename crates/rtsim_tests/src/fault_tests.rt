@@ -1,4 +1,4 @@
-use crate::outside::{GOOD, Outside, Told, one_file, perform};
+use crate::outside::{GOOD, Outside, Told, perform, two_files};
 use commands::rtsim;
 use rt_edge::{SureFiles, SureSink};
 use std::alloc::{AllocError, Global};
@@ -17,9 +17,9 @@ fn strings(alloc: Global, words: &[&str]) -> Result<Vec<String>, AllocError> {
     Ok(all)
 }
 
-// Does a command over the board in the file `b`.
+// Does a command over the board in the file `b`, and its trace in the file `t`.
 fn perform_on_board(alloc: Global, words: &[&str], outside: Outside) -> Result<Told, AllocError> {
-    perform(alloc, &strings(alloc, words)?, BOARD, outside)
+    perform(alloc, &strings(alloc, words)?, TRACE, BOARD, outside)
 }
 
 // The file is opened by one call and taken by five, of which the last finds its end.
@@ -33,6 +33,22 @@ fn a_failing_call_of_the_files_stops_the_command(rt: HostRuntime) -> Result<(), 
     }
     let told = perform_on_board(rt.alloc(), &["trace", "b"], Outside { read: 7, ..GOOD })?;
     assert_eq!(rt; told.status, 0);
+    Ok(())
+}
+
+// The trace is read by nine takes, and the board behind it as before. No text is put where a call fails.
+#[test]
+fn a_failing_call_of_either_file_stops_a_replay(rt: HostRuntime) -> Result<(), Fail> {
+    let words = ["replay", "t", "b"];
+    for read in 1..20 {
+        let told = perform_on_board(rt.alloc(), &words, Outside { read, ..GOOD })?;
+        assert!(rt; told.status == 4 || told.out.bytes() == TRACE);
+        assert!(rt; told.status == 0 || told.out.bytes().is_empty());
+    }
+    let first = perform_on_board(rt.alloc(), &words, Outside { read: 1, ..GOOD })?;
+    assert_eq!(rt; first.status, 4);
+    let whole = perform_on_board(rt.alloc(), &words, GOOD)?;
+    assert!(rt; whole.status == 0 && whole.out.bytes() == TRACE);
     Ok(())
 }
 
@@ -68,7 +84,7 @@ fn little_room_and_a_failing_line(rt: HostRuntime) -> Result<(), Fail> {
 #[test]
 fn sure_files_and_sinks_have_no_faults(rt: HostRuntime) -> Result<(), Fail> {
     let alloc = rt.alloc();
-    let mut files = SureFiles::new(one_file(alloc, BOARD)?, 7);
+    let mut files = SureFiles::new(two_files(alloc, TRACE, BOARD)?, 7);
     let words = strings(alloc, &["trace", "b"])?;
     let mut out = SureSink::new();
     let mut err = SureSink::new();

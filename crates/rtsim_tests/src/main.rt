@@ -12,7 +12,8 @@ use case::{Case, tell};
 use std::io;
 use std::io::{BufRead, BufReader};
 
-// A line `== WORDS` begins a case, and `=- WORDS` one whose file has no newline at its end. The lines below it are its file `b`.
+// A line `== WORDS` begins a case, and `=- WORDS` one whose file has no newline at its end. The lines below it are its file
+// `b`, and those below a line `-- t` its file `t`.
 fn main(rt: HostRuntime) -> io::Result<()> {
     let alloc = rt.alloc();
     let mut out = io::writer(&rt);

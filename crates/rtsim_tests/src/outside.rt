@@ -38,25 +38,46 @@ pub fn list<T: Copy>(alloc: Global, items: &[T]) -> Result<List<T>, AllocError> 
     Ok(all)
 }
 
-/// A file of the name `b`.
-pub fn one_file(alloc: Global, board: &[u8]) -> Result<List<(List<u8>, List<u8>)>, AllocError> {
-    let mut files = List::new(alloc);
-    let file = (list(alloc, b"b")?, list(alloc, board)?);
+// Adds a file.
+fn add_file(
+    alloc: Global,
+    files: &mut List<(List<u8>, List<u8>)>,
+    name: &[u8],
+    bytes: &[u8],
+) -> Result<(), AllocError> {
+    let file = (list(alloc, name)?, list(alloc, bytes)?);
     match files.push(file) {
-        Ok(()) => Ok(files),
+        Ok(()) => Ok(()),
         Err(_) => Err(AllocError),
     }
 }
 
-/// Does the command of the words over a file `b`.
+/// A trace in a file `t`, and a board in a file `b`.
+pub fn two_files(
+    alloc: Global,
+    trace: &[u8],
+    board: &[u8],
+) -> Result<List<(List<u8>, List<u8>)>, AllocError> {
+    let mut files = List::new(alloc);
+    add_file(alloc, &mut files, b"t", trace)?;
+    add_file(alloc, &mut files, b"b", board)?;
+    Ok(files)
+}
+
+/// Does the command of the words over files `t` and `b`.
 pub fn perform(
     alloc: Global,
     words: &[String],
+    trace: &[u8],
     board: &[u8],
     outside: Outside,
 ) -> Result<Told, AllocError> {
     let most = outside.most.max(1);
-    let mut files = MemFiles::new(one_file(alloc, board)?, most, list(alloc, &[outside.read])?);
+    let mut files = MemFiles::new(
+        two_files(alloc, trace, board)?,
+        most,
+        list(alloc, &[outside.read])?,
+    );
     let mut out = MemSink::new(alloc, outside.room, most, list(alloc, &[outside.write])?)?;
     let mut err = MemSink::new(alloc, 100, 5, list(alloc, &[outside.line])?)?;
     let status = rtsim(alloc, words, &mut files, &mut out, &mut err);

@@ -17,7 +17,7 @@ fn perform_wide(alloc: Global, command: &str, board: &[u8]) -> Result<Told, Allo
     let mut words = Vec::new(alloc);
     words.push(String::from_str(alloc, command)?)?;
     words.push(String::from_str(alloc, "b")?)?;
-    perform(alloc, &words, board, WIDE)
+    perform(alloc, &words, b"", board, WIDE)
 }
 
 // A comment fills the board up to this many bytes.

@@ -69,13 +69,22 @@ impl<const L: usize> Rows<L> {
         Some(self.left(&soonest.row))
     }
 
+    /// The ticks left until the row of a timer is due: `None` exactly where it has no row.
+    pub fn left_of(&self, no: TimerNo) -> Option<u32>
+        requires { IsLinked self.now }
+        ensures { result ≡ left_of no (line self.now) }
+    {
+        let node = self.nodes.get(self.key_of(no)?)?;
+        Some(self.left(&node.row))
+    }
+
     /// The tick at which a timer is due: `None` exactly where it has no row.
     pub fn due(&self, no: TimerNo) -> Option<u32>
         requires { IsLinked self.now }
         ensures { result ≡ option_map (tick_after self.now.tick) (left_of no (line self.now)) }
     {
-        let node = self.nodes.get(self.key_of(no)?)?;
-        Some(self.tick.wrapping_add(self.left(&node.row)))
+        let left = self.left_of(no)?;
+        Some(self.tick.wrapping_add(left))
     }
 
     /// The ticks left until a row is due.

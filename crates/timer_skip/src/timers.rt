@@ -1,5 +1,5 @@
 ghost use Rattle.std.specs.Prelude.{◌≡◌, ◌+◌, ◌<◌, ◌≤◌, ◌∷◌, ◌++◌, [], All, map, false, is_some, IfOk, IfSome, MatchOption};
-ghost use Rattle.timer_skip.specs.Armed.{is_armed, due_of, due_rows, without, after_ticks, IsLeastLeft};
+ghost use Rattle.timer_skip.specs.Armed.{is_armed, left_of, due_of, due_rows, without, after_ticks, IsLeastLeft};
 
 use crate::rows::Rows;
 use rt_base::{Steps, TimerNo};
@@ -69,6 +69,13 @@ impl<const L: usize> Timers<L> {
         ensures { self.new ≡ after_ticks n self.old }
     {
         self.rows.advance(n);
+    }
+
+    /// The ticks that are left of a timer: `None` exactly where it isn't armed.
+    pub fn left(&self, no: TimerNo) -> Option<u32>
+        ensures { result ≡ left_of no self.now.rows }
+    {
+        self.rows.left_of(no)
     }
 
     /// The tick at which a timer is due, in 32 bits: `None` exactly where it isn't armed.

@@ -1,63 +1,60 @@
-use Rattle.std.proofs.Common.{arith, ◌≡◌, ◌+◌, ◌-◌, ◌<◌, Some, None, ◌∙◌, sym, ap, length, refl}
-use Rattle.std.specs.Prelude.{slice_index}
-use Rattle.std.specs.List.{insert}
-use Rattle.rt_plain.specs.kernel.Ownership.{wait_of}
-use Rattle.mutex_chain.specs.Graph.{place_of, row_in, waiter_with, WokenList}
-use Rattle.mutex_chain.specs.Walks.{curs_of}
-use Rattle.mutex_chain.proofs.CurLemmas.{length-curs}
-use Rattle.mutex_chain.proofs.LineLemmas.{line_from, line_within, line_step, line_none, line_end, line_all, length-line, place_within}
+use Rattle.std.proofs.Common.{◌≡◌, ◌∙◌, ap, length, arith, get_or}
+use Rattle.std.proofs.lemmas.List.{get_or_read}
+use Rattle.rt_plain.specs.kernel.Ownership.{waiters_in}
+use Rattle.susp_list.specs.Rows.{Waits, line}
+use Rattle.mutex_chain.specs.Graph.{WokenList}
+use Rattle.mutex_chain.specs.Lines.{line_of, lines_of}
+use Rattle.mutex_chain.proofs.LineLemmas.{waiters_within}
+use Rattle.mutex_chain.proofs.StoredLemmas.{no_waits, length-lines, length-line_rows, line_at, line_is}
 use Rattle.mutex_chain.proofs.ends.list_waiters.Goals as goal
 
-pub bounds-curs-t : goal.bounds-curs-t
-bounds-curs-t c = omega (arith, c.loop-t.invariant.0, c.loop-t-test.true, ap length c.requires.curs, length-curs c.args.owners.now)
+pub index-requires : goal.index-requires
+index-requires g c =
+    let long : length c.args.curs.now.lines.items ≡ length c.args.owners.now.ceilings = ap length c.requires.lines ∙ length-lines c.args.owners.now c.args.curs.now.numbers.items in
+    omega (arith, long, c.requires.mutex, c.mutex.view_is)
 
-pub loop-t-init : goal.loop-t-init
-loop-t-init c = (
-  omega (arith, c.threads-t.ensures.count),
-  ap (λ (w : WokenList). w.threads) c.clear.ensures,
-  ap (λ (w : WokenList). w.woken) c.clear.ensures ∙ sym (ap (line_from c.args.owners.now c.args.mutex) c.threads-t.ensures.count ∙ line_end c.args.owners.now c.args.mutex),
-)
-
-pub place_of-place-requires-clause-within : goal.place_of-place-requires-clause-within
-place_of-place-requires-clause-within c = rw (c.as_slice.ensures, c.loop-t.invariant.2) (line_within c.args.owners.now c.args.mutex c.loop-t.t)
-
-pub insert-requires-clause-place : goal.insert-requires-clause-place
-insert-requires-clause-place c = rw (c.place_of-place.ensures, c.as_slice.ensures) (place_within (row_in c.args.owners.now c.args.mutex) c.in-Some.waiter c.loop-t.woken.woken)
-
-pub insert-requires-clause-room : goal.insert-requires-clause-room
-insert-requires-clause-room c =
-    omega (arith, ap length c.loop-t.invariant.2, length-line c.args.owners.now c.args.mutex c.loop-t.t, c.loop-t.invariant.0, c.loop-t.invariant.1, c.loop-t-test.true, c.requires.room)
-
-pub loop-t-preserved-in-Some : goal.loop-t-preserved-in-Some
-loop-t-preserved-in-Some c =
+pub list_line-requires-clause-room : goal.list_line-requires-clause-room
+list_line-requires-clause-room g c =
     let o = c.args.owners.now in
-    let small : c.loop-t.t - 1 < length c.args.owners.now.members = omega (arith, c.loop-t.invariant.0, c.loop-t-test.true) in
-    let next : c.loop-t.t ≡ c.loop-t.t - 1 + 1 = omega (arith, c.loop-t-test.true) in
-    let row : waiter_with (slice_index (curs_of c.args.owners.now) (c.loop-t.t - 1)) c.args.mutex (c.loop-t.t - 1) (wait_of c.args.owners.now (c.loop-t.t - 1)) ≡ Some c.in-Some.waiter =
-    sym (ap (λ ns. waiter_with (slice_index ns (c.loop-t.t - 1)) c.args.mutex (c.loop-t.t - 1) (wait_of c.args.owners.now (c.loop-t.t - 1))) c.requires.curs) ∙ sym c.waiter.ensures ∙ c.in-Some.is in
-    let line = c.loop-t.invariant.2 ∙ ap (line_from o c.args.mutex) next in (
-      omega arith,
-      ap (λ (w : WokenList). w.threads) c.insert.ensures ∙ c.loop-t.invariant.1,
-      ap (λ (w : WokenList). w.woken) c.insert.ensures
-          ∙ ap (λ p. insert c.loop-t.woken.woken p (c.loop-t.t - 1)) (c.place_of-place.ensures ∙ ap (place_of (row_in o c.args.mutex) c.in-Some.waiter) c.as_slice.ensures)
-          ∙ ap (λ ts. insert ts (place_of (row_in o c.args.mutex) c.in-Some.waiter ts) (c.loop-t.t - 1)) line
-          ∙ line_step o c.args.mutex (c.loop-t.t - 1) c.in-Some.waiter small row,
-    )
+    let ns = c.args.curs.now.numbers.items in
+    let long : length c.args.curs.now.lines.items ≡ length c.args.owners.now.ceilings = ap length c.requires.lines ∙ length-lines c.args.owners.now c.args.curs.now.numbers.items in
+    let at : c.index.result.now ≡ line_of c.args.owners.now c.args.curs.now.numbers.items c.args.mutex =
+    get_or_read c.args.curs.now.lines.items c.mutex.inside.0 c.index.result.now (omega (arith, long, c.requires.mutex, c.mutex.view_is)) c.index.ensures no_waits
+    ∙ ap (λ l. get_or l c.mutex.inside.0 no_waits) c.requires.lines ∙ ap (λ i. get_or (lines_of o ns) i no_waits) c.mutex.view_is ∙ line_at o ns c.args.mutex no_waits c.requires.mutex in
+    omega (arith, ap (λ (l : Waits). length l.rows) at, length-line_rows o ns c.args.mutex, ap (λ (w : WokenList). w.threads) c.clear.ensures, c.requires.room)
 
-pub loop-t-preserved : goal.loop-t-preserved
-loop-t-preserved c =
+pub returns-clause-waiters : goal.returns-clause-waiters
+returns-clause-waiters g c =
     let o = c.args.owners.now in
-    let small : c.loop-t.t - 1 < length c.args.owners.now.members = omega (arith, c.loop-t.invariant.0, c.loop-t-test.true) in
-    let next : c.loop-t.t ≡ c.loop-t.t - 1 + 1 = omega (arith, c.loop-t-test.true) in
-    let row : waiter_with (slice_index (curs_of c.args.owners.now) (c.loop-t.t - 1)) c.args.mutex (c.loop-t.t - 1) (wait_of c.args.owners.now (c.loop-t.t - 1)) ≡ None =
-    sym (ap (λ ns. waiter_with (slice_index ns (c.loop-t.t - 1)) c.args.mutex (c.loop-t.t - 1) (wait_of c.args.owners.now (c.loop-t.t - 1))) c.requires.curs) ∙ sym c.waiter.ensures ∙ c.in_default.is in
-    (omega arith, c.loop-t.invariant.1, c.loop-t.invariant.2 ∙ ap (line_from o c.args.mutex) next ∙ line_none o c.args.mutex (c.loop-t.t - 1) small row)
+    let ns = c.args.curs.now.numbers.items in
+    let long : length c.args.curs.now.lines.items ≡ length c.args.owners.now.ceilings = ap length c.requires.lines ∙ length-lines c.args.owners.now c.args.curs.now.numbers.items in
+    let at : c.index.result.now ≡ line_of c.args.owners.now c.args.curs.now.numbers.items c.args.mutex =
+    get_or_read c.args.curs.now.lines.items c.mutex.inside.0 c.index.result.now (omega (arith, long, c.requires.mutex, c.mutex.view_is)) c.index.ensures no_waits
+    ∙ ap (λ l. get_or l c.mutex.inside.0 no_waits) c.requires.lines ∙ ap (λ i. get_or (lines_of o ns) i no_waits) c.mutex.view_is ∙ line_at o ns c.args.mutex no_waits c.requires.mutex in
+    let all : line c.index.result.now ≡ waiters_in c.args.owners.now c.args.mutex =
+    ap line at ∙ ap (λ l. line (line_of o l c.args.mutex)) c.requires.curs ∙ line_is o c.args.mutex c.know_sound.ensures in
+    c.list_line.ensures.woken ∙ ap (λ (w : WokenList). record w { woken = line c.index.result.now }) c.clear.ensures ∙ ap (λ ts. record c.args.woken.now { woken = ts }) all
 
-pub returns : goal.returns
-returns c =
-    let done : c.loop-t.t ≡ 0 = omega (arith, c.loop-t-test.false) in
-    let all = c.loop-t.invariant.2 ∙ ap (line_from c.args.owners.now c.args.mutex) done ∙ line_all c.args.owners.now c.args.mutex in
-    record {
-      waiters = rw (← all, ← c.loop-t.invariant.1) refl;
-      within = rw c.loop-t.invariant.2 (line_within c.args.owners.now c.args.mutex c.loop-t.t);
-    }
+pub returns-clause-within : goal.returns-clause-within
+returns-clause-within g c =
+    let o = c.args.owners.now in
+    let ns = c.args.curs.now.numbers.items in
+    let long : length c.args.curs.now.lines.items ≡ length c.args.owners.now.ceilings = ap length c.requires.lines ∙ length-lines c.args.owners.now c.args.curs.now.numbers.items in
+    let at : c.index.result.now ≡ line_of c.args.owners.now c.args.curs.now.numbers.items c.args.mutex =
+    get_or_read c.args.curs.now.lines.items c.mutex.inside.0 c.index.result.now (omega (arith, long, c.requires.mutex, c.mutex.view_is)) c.index.ensures no_waits
+    ∙ ap (λ l. get_or l c.mutex.inside.0 no_waits) c.requires.lines ∙ ap (λ i. get_or (lines_of o ns) i no_waits) c.mutex.view_is ∙ line_at o ns c.args.mutex no_waits c.requires.mutex in
+    let all : line c.index.result.now ≡ waiters_in c.args.owners.now c.args.mutex =
+    ap line at ∙ ap (λ l. line (line_of o l c.args.mutex)) c.requires.curs ∙ line_is o c.args.mutex c.know_sound.ensures in
+    rw (ap (λ (w : WokenList). w.woken) c.list_line.ensures.woken ∙ all) (waiters_within o c.args.mutex)
+
+pub returns-clause-count : goal.returns-clause-count
+returns-clause-count g c =
+    let o = c.args.owners.now in
+    let ns = c.args.curs.now.numbers.items in
+    let long : length c.args.curs.now.lines.items ≡ length c.args.owners.now.ceilings = ap length c.requires.lines ∙ length-lines c.args.owners.now c.args.curs.now.numbers.items in
+    let at : c.index.result.now ≡ line_of c.args.owners.now c.args.curs.now.numbers.items c.args.mutex =
+    get_or_read c.args.curs.now.lines.items c.mutex.inside.0 c.index.result.now (omega (arith, long, c.requires.mutex, c.mutex.view_is)) c.index.ensures no_waits
+    ∙ ap (λ l. get_or l c.mutex.inside.0 no_waits) c.requires.lines ∙ ap (λ i. get_or (lines_of o ns) i no_waits) c.mutex.view_is ∙ line_at o ns c.args.mutex no_waits c.requires.mutex in
+    let all : line c.index.result.now ≡ waiters_in c.args.owners.now c.args.mutex =
+    ap line at ∙ ap (λ l. line (line_of o l c.args.mutex)) c.requires.curs ∙ line_is o c.args.mutex c.know_sound.ensures in
+    omega (arith, c.list_line.ensures.count, ap length all)

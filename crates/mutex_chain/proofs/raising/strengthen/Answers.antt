@@ -6,12 +6,12 @@ use Rattle.mutex_chain.proofs.NoteLemmas.{notes_begin, has_notes_begin}
 use Rattle.mutex_chain.proofs.raising.strengthen.Goals as goal
 
 pub raise-requires-clause-notes : goal.raise-requires-clause-notes
-raise-requires-clause-notes g c = rw c.clear.ensures (has_notes_begin c.args.curs.now.items c.requires.raising.places)
+raise-requires-clause-notes g c = rw c.clear.ensures (has_notes_begin c.args.curs.now.numbers.items c.requires.raising.places)
 
 pub returns-clause-changes : goal.returns-clause-changes
 returns-clause-changes g c = λ o sound at keeps.
-    let begun : AreNotes c.args.curs.now.items c.args.curs.now.items c.clear.new.self.changes = rw c.clear.ensures (notes_begin c.args.curs.now.items) in
-    let notes : AreNotes (curs_of o) c.raise.new.curs.items c.raise.new.out.changes = rw (← at) (c.raise.ensures.notes c.args.curs.now.items begun) in
+    let begun : AreNotes c.args.curs.now.numbers.items c.args.curs.now.numbers.items c.clear.new.self.changes = rw c.clear.ensures (notes_begin c.args.curs.now.numbers.items) in
+    let notes : AreNotes (curs_of o) c.raise.new.curs.numbers.items c.raise.new.out.changes = rw (← at) (c.raise.ensures.notes c.args.curs.now.numbers.items begun) in
     let noted : AreNotes (curs_of o) c.deref.result.now c.raise.new.out.changes = rw c.deref.ensures.value notes in
     let room : c.raise.new.out.threads ≡ c.args.out.now.threads = c.raise.ensures.room ∙ ap (λ (l : ChangeList). l.threads) c.clear.ensures in
     rw room at (c.settle.ensures.changes o sound keeps noted)

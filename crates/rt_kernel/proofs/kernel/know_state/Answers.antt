@@ -1,14 +1,12 @@
-use Rattle.std.proofs.Common.{◌≡◌, ◌≤◌, ◌<◌, length, arith, Option, Some, None, ℕ, IfSome, refl}
+use Rattle.std.proofs.Common.{◌≡◌, ◌≤◌, length, arith, ℕ, refl}
 use Rattle.rt_plain.specs.kernel.State.{State, thread_at}
 use Rattle.rt_plain.specs.PlainBoard.{PlainBoard}
 use Rattle.rt_plain.specs.runs.Runs.{thread_count}
 use Rattle.rt_kernel.specs.Built.{IsBuilt}
 use Rattle.rt_kernel.specs.IsKernel.{frame_of}
-use Rattle.kernel_tables.specs.Tabled.{Tabled}
-use Rattle.rt_kernel.specs.Switched.{IsOnCore}
 use Rattle.rt_kernel.specs.View.{state_of}
 use Rattle.rt_kernel.proofs.BuiltLemmas.{script-short}
-use Rattle.rt_kernel.proofs.KeptLemmas.{on-core, ready-once, running-there, running-free, rows-latest, no-timers}
+use Rattle.rt_kernel.proofs.KeptLemmas.{on-core, ready-active, ready-once, running-there, running-free, rows-latest}
 use Rattle.rt_kernel.proofs.kernel.know_state.Goals as goal
 
 -- there are 256 threads at most
@@ -24,26 +22,25 @@ returns-clause-count c =
 pub returns-clause-latest : goal.returns-clause-latest
 returns-clause-latest c = rows-latest (frame_of c.args.board.now (state_of c.args.state.now)) (state_of c.args.state.now) c.requires.kept
 
-pub returns-clause-timers : goal.returns-clause-timers
-returns-clause-timers c = no-timers (frame_of c.args.board.now (state_of c.args.state.now)) (state_of c.args.state.now) c.requires.kept c.requires.built.timers
-
 pub returns-clause-free : goal.returns-clause-free
-returns-clause-free c r is = running-free (frame_of c.args.board.now (state_of c.args.state.now)) (state_of c.args.state.now) 0 r c.requires.kept is
+returns-clause-free c core r is = running-free (frame_of c.args.board.now (state_of c.args.state.now)) (state_of c.args.state.now) core r c.requires.kept is
 
 pub returns-clause-moment : goal.returns-clause-moment
 returns-clause-moment c = c.requires.kept.live c.requires.built.proper.until refl
 
+pub returns-clause-cores : goal.returns-clause-cores
+returns-clause-cores c = c.requires.kept.cores
+
 pub returns-clause-once : goal.returns-clause-once
 returns-clause-once c = ready-once (frame_of c.args.board.now (state_of c.args.state.now)) (state_of c.args.state.now) c.requires.kept
 
-runs : (k : Tabled) (o : Option ℕ) → ((r : ℕ) → o ≡ Some r → IsOnCore k r) → IfSome o (λ r. IsOnCore k r)
-runs k None there = tt
-runs k (Some r) there = there r refl
+pub returns-clause-active : goal.returns-clause-active
+returns-clause-active c = ready-active (frame_of c.args.board.now (state_of c.args.state.now)) c.args.state.now c.requires.kept
 
 pub returns-clause-running : goal.returns-clause-running
-returns-clause-running c = runs c.args.state.now.tables c.args.state.now.running (λ r is. on-core (frame_of c.args.board.now (state_of c.args.state.now)) c.args.state.now 0 r c.requires.kept is)
+returns-clause-running c core r is = on-core (frame_of c.args.board.now (state_of c.args.state.now)) c.args.state.now core r c.requires.kept is
 
 pub returns-clause-next : goal.returns-clause-next
-returns-clause-next c r is =
+returns-clause-next c core r is =
     let s : State = state_of c.args.state.now in
-    omega (arith, (running-there (frame_of c.args.board.now s) s 0 r c.requires.kept is).1, script-short c.args.board.now (thread_at s r).name c.requires.built)
+    omega (arith, (running-there (frame_of c.args.board.now s) s core r c.requires.kept is).1, script-short c.args.board.now (thread_at s r).name c.requires.built)

@@ -1,26 +1,28 @@
-use Rattle.std.proofs.Common.{◌≡◌, None, Some, true, arith, ap, subst, sym, ◌∙◌, rules}
+use Rattle.std.proofs.Common.{◌≡◌, ◌+◌, ◌<◌, ◌^◌, All, None, Some, true, ap, subst, sym, ◌∙◌, rules}
 use Rattle.rt_plain.specs.PlainBoard.{PlainBoard}
+use Rattle.rt_plain.specs.kernel.State.{Arriving, ArmedRow, Alarm}
 use Rattle.rt_plain.specs.runs.Runs.{IsReached, after, is_event_of, room}
 use Rattle.kernel_step.specs.Built.{IsBuilt}
 use Rattle.kernel_step.specs.Engine.{state_of}
 use Rattle.kernel_step.specs.MachineSeen.{MachineSeen}
 use Rattle.kernel_step.specs.IsMachine.{course_of}
-use Rattle.kernel_step.proofs.BuiltLemmas.{room-enough}
 use Rattle.kernel_step.proofs.StepLemmas.{engine-halt}
-use Rattle.kernel_step.proofs.MachineLemmas.{after-halted, after-makes, after-same, after-halts, reached-after}
+use Rattle.kernel_step.proofs.MachineLemmas.{after-halted, after-makes, after-same, after-halts, reached-after, going}
 use Rattle.kernel_step.proofs.machine.Machine.event.Given.{Over}
 use Rattle.kernel_step.proofs.machine.Machine.event.Goals as goal
 
 pub returns-in-Some-clause-course : goal.returns-in-Some-clause-course
 returns-in-Some-clause-course g c = rw (← c.self.view_is) (after-halted _ _ c.args.event c.in-Some.halt c.in-Some.is)
 
-pub event-did-requires-clause-live : goal.event-did-requires-clause-live
-event-did-requires-clause-live g c =
+pub event-did-requires-clause-going : goal.event-did-requires-clause-going
+event-did-requires-clause-going g c =
     let none : c.self.inside.halt ≡ None = search rules in
-    sym (engine-halt c.self.inside.engine) ∙ c.self.invariant.reached.live none
-
-pub event-did-requires-clause-room : goal.event-did-requires-clause-room
-event-did-requires-clause-room g c = omega (arith, room-enough _ c.self.invariant.built, c.self.invariant.room)
+    let way = c.know_on_way.ensures in
+    going c.self.inside.engine c.self.invariant.built (sym (engine-halt c.self.inside.engine) ∙ c.self.invariant.reached.live none) c.self.invariant.clock
+    (subst (λ (v : MachineSeen). All (λ (row : ArmedRow Alarm). v.course.state.moment < row.due) v.course.state.armed) (sym c.self.view_is) way.rows)
+    (subst (λ (v : MachineSeen). All (λ (a : Arriving). v.course.state.moment < a.moment) v.course.state.arrivals) (sym c.self.view_is) way.ahead)
+    (subst (λ (v : MachineSeen). v.course.state.moment < v.board.until) (sym c.self.view_is) way.early)
+    (subst (λ (v : MachineSeen). v.course.state.numbers + 1026 < 2 ^ 64) (sym c.self.view_is) way.number)
 
 -- an entry, as the plain machine makes it
 entered : (g : Over) (c : goal.After-self-1 g) → record { state = state_of c.event-did.new.self; journal = c.push.new.self.entries; halt = c.halt-self-inside.result } ≡ after c.self.inside.engine.kernel.board (course_of c.self.inside) c.args.event
@@ -48,8 +50,9 @@ invariant_of-self g c =
     record {
       reached = subst (λ (b : PlainBoard). IsReached b (record { state = state_of c.event-did.new.self; journal = c.push.new.self.entries; halt = c.halt-self-inside.result })) (sym c.event-did.ensures.board) (reached-after _ (course_of c.self.inside) _ c.args.event core none c.self.invariant.reached (entered g c));
       built = subst IsBuilt (sym c.event-did.ensures.board) c.self.invariant.built;
+      clock = c.event-did.ensures.clock;
       empty = c.push.ensures.empty;
-      room = c.push.ensures.room ∙ c.event-did.ensures.out_room ∙ c.self.invariant.room ∙ sym (ap room c.event-did.ensures.board);
+      room = c.push.ensures.room ∙ c.event-did.ensures.out_room ∙ c.self.invariant.room ∙ sym (ap (λ (b : PlainBoard). room b + 16) c.event-did.ensures.board);
     }
 
 pub invariant_of-self-in-Same : goal.invariant_of-self-in-Same
@@ -59,8 +62,9 @@ invariant_of-self-in-Same g c =
     record {
       reached = subst (λ (b : PlainBoard). IsReached b (record { state = state_of c.event-did.new.self; journal = c.self.inside.journal.entries; halt = c.self.inside.halt })) (sym c.event-did.ensures.board) (reached-after _ (course_of c.self.inside) _ c.args.event core none c.self.invariant.reached (same g c));
       built = subst IsBuilt (sym c.event-did.ensures.board) c.self.invariant.built;
+      clock = c.event-did.ensures.clock;
       empty = c.in-Same.ensures.gives.2;
-      room = c.event-did.ensures.out_room ∙ c.self.invariant.room ∙ sym (ap room c.event-did.ensures.board);
+      room = c.event-did.ensures.out_room ∙ c.self.invariant.room ∙ sym (ap (λ (b : PlainBoard). room b + 16) c.event-did.ensures.board);
     }
 
 pub invariant_of-self-in-Halted : goal.invariant_of-self-in-Halted
@@ -70,8 +74,9 @@ invariant_of-self-in-Halted g c =
     record {
       reached = subst (λ (b : PlainBoard). IsReached b (record { state = state_of c.event-did.new.self; journal = c.self.inside.journal.entries; halt = Some c.in-Halted.halt })) (sym c.event-did.ensures.board) (reached-after _ (course_of c.self.inside) _ c.args.event core none c.self.invariant.reached (halted g c));
       built = subst IsBuilt (sym c.event-did.ensures.board) c.self.invariant.built;
+      clock = c.event-did.ensures.clock;
       empty = c.in-Halted.ensures.gives.2;
-      room = c.event-did.ensures.out_room ∙ c.self.invariant.room ∙ sym (ap room c.event-did.ensures.board);
+      room = c.event-did.ensures.out_room ∙ c.self.invariant.room ∙ sym (ap (λ (b : PlainBoard). room b + 16) c.event-did.ensures.board);
     }
 
 pub returns-in-Entry-clause-course : goal.returns-in-Entry-clause-course

@@ -1,6 +1,10 @@
 use Rattle.std.proofs.Common.{◌∙◌, sym}
 use Rattle.std.proofs.lemmas.Option.{none-some}
+use Rattle.ipc_queues.specs.declared.channels.ChannelKind.{ChannelKind}
+use Rattle.kernel_tables.specs.declared.wait_list.WaitList.{WaitList}
+use Rattle.kernel_tables.proofs.FoundLemmas.{found-below}
 use Rattle.kernel_tables.proofs.QueueLemmas.{queue-there, queue-none, first-seen, first-there}
+use Rattle.kernel_tables.proofs.RetryLemmas.{first-repeats}
 use Rattle.kernel_tables.proofs.tables.Tables.first_at_queue.Goals as goal
 
 pub returns-in_err-no-clause-first : goal.returns-in_err-no-clause-first
@@ -19,3 +23,8 @@ returns-clause-first c =
 pub returns-clause-there : goal.returns-clause-there
 returns-clause-there c =
     rw (← c.self.view_is) (first-there c.self.inside.threads c.self.inside.lists c.args.name.now c.in_ok-no.no c.args.end c.first.result c.self.invariant.tied (sym c.find.ensures ∙ c.in_ok-no.was) c.first.ensures.first)
+
+pub returns-clause-waits : goal.returns-clause-waits
+returns-clause-waits c =
+    let l = c.self.inside.lists in
+    rw (← c.self.view_is) (first-repeats c.self.inside.threads l ChannelKind.MsgQueue c.args.end c.in_ok-no.no c.first.result c.self.invariant.tied (found-below l.objects.msgqueue c.args.name.now c.in_ok-no.no (c.self.invariant.tied.lists.sound (WaitList.Channel ChannelKind.MsgQueue c.args.end)) (sym c.find.ensures ∙ c.in_ok-no.was)) c.first.ensures.first)

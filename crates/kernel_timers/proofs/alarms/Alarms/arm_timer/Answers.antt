@@ -1,15 +1,14 @@
-use Rattle.std.proofs.Common.{rules, ◌≡◌, ◌≢◌, ◌+◌, ◌-◌, ◌<◌, ◌≤◌, ◌++◌, ◌∷◌, [], List, ℕ, Some, None, length, map, not, true, false, refl, sym, ap, ◌∙◌, subst, arith, MatchOption, slice_index_or}
-use Rattle.std.specs.List.{All, AllByRecursion}
+use Rattle.std.proofs.Common.{rules, ◌≡◌, ◌+◌, ◌<◌, ◌++◌, ◌∷◌, [], length, map, ap, ◌∙◌, arith}
 use Rattle.std.proofs.lemmas.List.Elements.{All-from_recursion}
 use Rattle.rt_plain.specs.kernel.Opening.{new_timer}
-use Rattle.rt_plain.specs.kernel.State.{Timer, ArmedRow, Alarm, OfThread, OfTimer}
-use Rattle.timer_skip.specs.Armed.{Armed, ArmedRow as SkipRow, due_rows}
-use Rattle.kernel_timers.specs.Alarmed.{AlarmsSeen, alarm_of, names_of, timer_at, is_armed, without, first_alarm}
+use Rattle.rt_plain.specs.kernel.State.{Timer, OfTimer}
+use Rattle.timer_skip.specs.Armed.{Armed, ArmedRow as SkipRow}
+use Rattle.kernel_timers.specs.Alarmed.{AlarmsSeen, alarm_of, names_of, timer_at, without}
 use Rattle.kernel_timers.specs.Alarmed.{IsTimed}
-use Rattle.timer_skip.specs.Armed.{is_armed as is_row_armed, without as without_row}
+use Rattle.timer_skip.specs.Armed.{is_armed as is_row_armed}
 use Rattle.kernel_timers.proofs.RowLemmas.{free-without}
 use Rattle.kernel_timers.proofs.TimerLemmas.{timed-at}
-use Rattle.kernel_timers.proofs.AlarmLemmas.{seen_of, timer-is, stopped-kept, stopped-seen, rows-latest, latest-without, started-kept, started-seen, read-is}
+use Rattle.kernel_timers.proofs.AlarmLemmas.{timer-is, stopped-kept, stopped-seen, rows-latest, latest-without, started-kept, started-seen, read-is}
 use Rattle.kernel_timers.proofs.alarms.Alarms.arm_timer.Goals as goal
 
 pub start-requires : goal.start-requires

@@ -1,11 +1,10 @@
-use Rattle.std.proofs.Common.{rules, ◌≡◌, ◌≢◌, ◌+◌, ◌-◌, ◌<◌, ◌≤◌, ◌++◌, ◌∷◌, [], List, ℕ, Some, None, length, map, not, true, false, refl, sym, ap, ◌∙◌, subst, arith, MatchOption, slice_index_or}
-use Rattle.std.specs.List.{All, AllByRecursion}
+use Rattle.std.proofs.Common.{rules, ◌≡◌, ◌+◌, ◌-◌, ◌<◌, ◌++◌, ◌∷◌, [], length, map, ap, ◌∙◌, arith}
 use Rattle.std.proofs.lemmas.List.Elements.{All-from_recursion}
 use Rattle.rt_plain.specs.kernel.Opening.{new_timer}
-use Rattle.rt_plain.specs.kernel.State.{Timer, ArmedRow, Alarm, OfThread, OfTimer}
-use Rattle.timer_skip.specs.Armed.{Armed, ArmedRow as SkipRow, due_rows}
-use Rattle.kernel_timers.specs.Alarmed.{AlarmsSeen, alarm_of, names_of, timer_at, is_armed, without, first_alarm}
-use Rattle.kernel_timers.proofs.AlarmLemmas.{seen_of, thread-is, stopped-armed, rows-latest, started-kept, started-seen}
+use Rattle.rt_plain.specs.kernel.State.{OfThread}
+use Rattle.timer_skip.specs.Armed.{ArmedRow as SkipRow}
+use Rattle.kernel_timers.specs.Alarmed.{AlarmsSeen, is_armed}
+use Rattle.kernel_timers.proofs.AlarmLemmas.{thread-is, stopped-armed, rows-latest, started-kept, started-seen}
 use Rattle.kernel_timers.proofs.alarms.Alarms.arm_wait.Goals as goal
 
 pub start-requires : goal.start-requires

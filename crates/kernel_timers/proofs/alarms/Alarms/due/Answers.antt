@@ -1,10 +1,7 @@
-use Rattle.std.proofs.Common.{rules, ◌≡◌, ◌≢◌, ◌+◌, ◌-◌, ◌<◌, ◌≤◌, ◌++◌, ◌∷◌, [], List, ℕ, Some, None, length, map, not, true, false, refl, sym, ap, ◌∙◌, subst, arith, MatchOption, slice_index_or}
-use Rattle.std.specs.List.{All, AllByRecursion}
-use Rattle.std.proofs.lemmas.List.Elements.{All-from_recursion}
+use Rattle.std.proofs.Common.{◌<◌, length, map, ap, ◌∙◌, arith}
 use Rattle.rt_plain.specs.kernel.Opening.{new_timer}
-use Rattle.rt_plain.specs.kernel.State.{Timer, ArmedRow, Alarm, OfThread, OfTimer}
-use Rattle.timer_skip.specs.Armed.{Armed, ArmedRow as SkipRow, due_rows}
-use Rattle.kernel_timers.specs.Alarmed.{AlarmsSeen, alarm_of, names_of, timer_at, is_armed, without, first_alarm}
+use Rattle.rt_plain.specs.kernel.State.{OfTimer}
+use Rattle.kernel_timers.specs.Alarmed.{AlarmsSeen, timer_at}
 use Rattle.std.proofs.Common.{◌%◌}
 use Rattle.std.specs.Option.{option_map}
 use Rattle.kernel_timers.specs.Alarmed.{due_of}

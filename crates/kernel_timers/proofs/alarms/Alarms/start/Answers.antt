@@ -1,7 +1,7 @@
-use Rattle.std.proofs.Common.{◌≡◌, ◌+◌, ◌-◌, ℕ, length, refl, sym, subst, ap, ◌∙◌}
+use Rattle.std.proofs.Common.{◌+◌, ◌-◌, length, refl, sym, subst, ap, ◌∙◌}
 use Rattle.rt_plain.specs.declared.board.TimerDef.{TimerDef}
 use Rattle.kernel_timers.specs.Alarmed.{AlarmsSeen}
-use Rattle.kernel_timers.proofs.StartLemmas.{Begun, begun-more, begun-skipped, begun-first, begun-all}
+use Rattle.kernel_timers.proofs.StartLemmas.{Begun, begun-more, begun-skipped}
 use Rattle.kernel_timers.proofs.alarms.Alarms.start.Goals.{then-defs-i, else-defs-i}
 use Rattle.kernel_timers.proofs.alarms.Alarms.start.Goals as goal
 

@@ -1,13 +1,9 @@
-use Rattle.std.proofs.Common.{rules, ◌≡◌, ◌≢◌, ◌+◌, ◌-◌, ◌<◌, ◌≤◌, ◌++◌, ◌∷◌, [], List, ℕ, Some, None, length, map, not, true, false, refl, sym, ap, ◌∙◌, subst, arith, MatchOption, slice_index_or}
-use Rattle.std.specs.List.{All, AllByRecursion}
-use Rattle.std.proofs.lemmas.List.Elements.{All-from_recursion}
+use Rattle.std.proofs.Common.{map, sym, ap, ◌∙◌}
 use Rattle.rt_plain.specs.kernel.Opening.{new_timer}
-use Rattle.rt_plain.specs.kernel.State.{Timer, ArmedRow, Alarm, OfThread, OfTimer}
-use Rattle.timer_skip.specs.Armed.{Armed, ArmedRow as SkipRow, due_rows}
-use Rattle.kernel_timers.specs.Alarmed.{AlarmsSeen, alarm_of, names_of, timer_at, is_armed, without, first_alarm}
+use Rattle.kernel_timers.specs.Alarmed.{AlarmsSeen, alarm_of, names_of, first_alarm}
 use Rattle.rt_plain.specs.kernel.Due.{due_rows_at}
 use Rattle.std.specs.Option.{option_map}
-use Rattle.kernel_timers.proofs.AlarmLemmas.{seen_of, due-first, due-there, taken-kept, taken-seen}
+use Rattle.kernel_timers.proofs.AlarmLemmas.{due-first, due-there, taken-kept, taken-seen}
 use Rattle.kernel_timers.proofs.alarms.Alarms.take_due.Goals as goal
 
 pub invariant_of-self : goal.invariant_of-self

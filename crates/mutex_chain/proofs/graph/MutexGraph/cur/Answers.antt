@@ -19,9 +19,9 @@ returns c =
     let t = c.thread.inside.0 in
     let there : has_thread c.self.inside.owners c.thread.inside.0 ≡ true = rw (c.self.view_is, c.thread.view_is) c.requires in
     let within : c.thread.inside.0 < length c.self.inside.owners.members = thread_within c.self.inside.owners c.thread.inside.0 there in
-    let place : c.thread.inside.0 < length c.self.inside.curs.items = omega (arith, within, c.self.invariant.places) in
+    let place : c.thread.inside.0 < length c.self.inside.curs.numbers.items = omega (arith, within, c.self.invariant.places) in
     let read : c.index.result.now ≡ cur_in c.self.inside.owners c.thread.inside.0 =
-    c.index.ensures ∙ get_or_default_zero c.self.inside.curs.items c.thread.inside.0 c.index.result.now place
+    c.index.ensures ∙ get_or_default_zero c.self.inside.curs.numbers.items c.thread.inside.0 c.index.result.now place
     ∙ ap (λ ns. slice_index ns c.thread.inside.0) c.self.invariant.curs ∙ cur_at o t within in
     let small : cur_in c.self.inside.owners c.thread.inside.0 < 256 = cur_small o t c.self.invariant.sound there in
     let low : min (cur_in c.self.inside.owners c.thread.inside.0) 255 ≡ cur_in c.self.inside.owners c.thread.inside.0 = omega arith in

@@ -16,11 +16,11 @@ strengthen-requires-clause-raising g c =
     let o = c.self.inside.owners in
     let there : has_thread c.self.inside.owners c.args.thread ≡ true = rw c.self.view_is c.requires.thread in
     let idle : awaited_in c.self.inside.owners c.args.thread ≡ None = rw c.self.view_is c.requires.idle in
-    let place : c.thread.inside.0 < length c.self.inside.curs.items = omega (arith, thread_within o c.args.thread there, c.self.invariant.places, c.thread.view_is) in
-    let number : c.index-number.result.now ≡ slice_index c.self.inside.curs.items c.args.thread =
-    c.index-number.ensures ∙ get_or_default_zero c.self.inside.curs.items c.thread.inside.0 c.index-number.result.now place ∙ ap (slice_index c.self.inside.curs.items) c.thread.view_is in
-    wait_raises o c.set_wait.new.self c.self.inside.curs.items c.holder-owner.result c.args.thread c.args.mutex c.args.at c.index-number.result.now c.self.invariant.sound c.know_sound.ensures c.self.invariant.curs c.set_wait.ensures
-    c.holder-owner.ensures.owner there idle number
+    let place : c.thread.inside.0 < length c.self.inside.curs.numbers.items = omega (arith, thread_within o c.args.thread there, c.self.invariant.places, c.thread.view_is) in
+    let number : c.index-number.result.now ≡ slice_index c.self.inside.curs.numbers.items c.args.thread =
+    c.index-number.ensures ∙ get_or_default_zero c.self.inside.curs.numbers.items c.thread.inside.0 c.index-number.result.now place ∙ ap (slice_index c.self.inside.curs.numbers.items) c.thread.view_is in
+    rw c.join.ensures.numbers (wait_raises o c.set_wait.new.self c.self.inside.curs.numbers.items c.holder-owner.result c.args.thread c.args.mutex c.args.at c.index-number.result.now c.self.invariant.sound c.know_sound.ensures c.self.invariant.curs c.set_wait.ensures
+    c.holder-owner.ensures.owner there idle number)
 
 pub returns-clause-cost : goal.returns-clause-cost
 returns-clause-cost g c =
@@ -34,4 +34,4 @@ returns-clause-cost g c =
     ∙ length-set c.self.inside.owners.members c.args.thread (option_map (with_wait (Some (record { mutex = c.args.mutex; number = c.args.at }))) (member_at c.self.inside.owners c.args.thread)) in
     let inside : c.args.thread < length c.set_wait.new.self.members = omega (arith, thread_within o c.args.thread there) in
     let cost = c.strengthen.ensures.cost (c.args.thread ∷ []) c.args.thread (itself c.args.thread) inside (leads_above c.set_wait.new.self c.args.thread c.holder-owner.result c.know_sound.ensures inside above) in
-    omega (arith, cost, c.tick.ensures, c.tick-2.ensures)
+    omega (arith, cost, c.tick.ensures, c.tick-2.ensures, c.tick-3.ensures)

@@ -1,54 +1,71 @@
-use Rattle.std.proofs.Common.{◌≡◌, ◌≤◌, ◌++◌, refl, sym, ap, ◌∙◌, subst, length}
-use Rattle.rt_plain.specs.kernel.State.{State, thread_at}
+use Rattle.std.proofs.Common.{◌≡◌, ◌≤◌, ◌++◌, ℕ, length, refl, sym, ap, ◌∙◌, subst}
+use Rattle.rt_plain.specs.PlainBoard.{PlainBoard}
+use Rattle.rt_plain.specs.kernel.State.{State, Alarm}
 use Rattle.rt_plain.specs.kernel.Effects.{Effect}
 use Rattle.rt_plain.specs.kernel.Kept.{Kept}
+use Rattle.rt_plain.specs.kernel.Due.{due, alarm_effect}
+use Rattle.rt_plain.specs.kernel.Calls.{settled_effect}
+use Rattle.rt_kernel.specs.Actions.{MayFire}
+use Rattle.rt_kernel.specs.Mutexes.{HasNoMutex}
 use Rattle.rt_kernel.specs.IsKernel.{frame_of}
 use Rattle.rt_kernel.specs.PlainKernel.{PlainKernel}
 use Rattle.rt_kernel.specs.View.{state_of}
-use Rattle.rt_plain.specs.kernel.Due.{due, timeout_effect}
-use Rattle.rt_plain.specs.kernel.State.{OfThread}
-use Rattle.rt_plain.specs.kernel.Calls.{settled_effect}
-use Rattle.rt_plain.specs.kernel.Sound.{is_waiting}
+use Rattle.kernel_timers.specs.Alarmed.{alarm_of, names_of}
+use Rattle.rt_kernel.proofs.KernelDue.{may_act}
 use Rattle.rt_kernel.proofs.NameLemmas.{order-kept}
-use Rattle.rt_kernel.proofs.Quiet.{KeepsNames, quiet-timeout}
-use Rattle.rt_kernel.proofs.StageLemmas.{waiting_idle}
-use Rattle.rt_kernel.proofs.KeptLemmas.{fired-kept, due-dropped}
-use Rattle.rt_kernel.proofs.Quiet.{fire_settles}
+use Rattle.rt_kernel.proofs.Quiet.{IsQuiet, KeepsNames, quiet-free}
+use Rattle.rt_kernel.proofs.TimerFireLemmas.{Fires, fires_at, alarm_due, alarm_arrivals, alarm_kept, alarm_moment, quiet-alarm_fires}
 use Rattle.rt_kernel.proofs.kernel.Kernel.fire.Given.{Over}
 use Rattle.rt_kernel.proofs.kernel.Kernel.fire.Goals as goal
 
-pub fire-requires-clause-idle : goal.fire-requires-clause-idle
-fire-requires-clause-idle g c =
-    let s : State = state_of c.self.inside.state in
-    waiting_idle (thread_at s c.no.inside.0).stage (ap (λ n. is_waiting (thread_at s n).stage) c.no.view_is ∙ ap (λ (k : PlainKernel). is_waiting (thread_at k.state c.args.no).stage) c.self.view_is ∙ c.requires.waits)
+-- whose row fires, as the plain kernel says it
+abbrev fired_by : PlainKernel → ℕ → Effect
+fired_by k who = settled_effect k.board k.state (alarm_effect k.board (alarm_of (names_of k.state.timers) who) k.state)
 
-fired : (g : Over) (c : goal.After-fire g) → state_of c.fire.new.self ≡ (settled_effect c.self.inside.board (state_of c.self.inside.state) (timeout_effect c.args.no (state_of c.self.inside.state))).state
-fired g c =
+may : (g : Over) (c : goal.After-fire_row g) → Fires (state_of c.self.inside.state) (alarm_of (names_of c.self.inside.state.armed.timers) c.args.no)
+may g c =
+    let b : PlainBoard = c.self.inside.board in
     let s : State = state_of c.self.inside.state in
-    c.fire.ensures.acts.state ∙ ap (λ n. (timeout_effect n s).state) c.no.view_is ∙ sym (ap (λ (e : Effect). e.state) (fire_settles c.self.inside.board s c.args.no refl))
+    fires_at s c.args.no (subst (λ (k : PlainKernel). MayFire k.state c.args.no) (sym c.self.view_is) c.requires.fires) c.know_timers.ensures.threads c.know_timers.ensures.numbered c.know_timers.ensures.own (λ o there. may_act b (frame_of b s) s o c.self.invariant.built refl c.self.invariant.kept there)
+
+fired : (g : Over) (c : goal.After-fire_row g) → settled_effect c.self.inside.board (state_of c.self.inside.state) (alarm_effect c.self.inside.board (alarm_of (names_of c.self.inside.state.armed.timers) c.args.no) (state_of c.self.inside.state)) ≡ fired_by c.args.self.now c.args.no
+fired g c = ap (λ (k : PlainKernel). fired_by k c.args.no) c.self.view_is
+
+quiet : (g : Over) (c : goal.After-fire_row g) → IsQuiet (state_of c.self.inside.state) (alarm_effect c.self.inside.board (alarm_of (names_of c.self.inside.state.armed.timers) c.args.no) (state_of c.self.inside.state)).state
+quiet g c = quiet-alarm_fires c.self.inside.board (state_of c.self.inside.state) (alarm_of (names_of c.self.inside.state.armed.timers) c.args.no) c.know_state.ensures.nobody (may g c)
 
 pub invariant_of-self : goal.invariant_of-self
 invariant_of-self g c =
+    let b : PlainBoard = c.self.inside.board in
     let s : State = state_of c.self.inside.state in
+    let alarm : Alarm = alarm_of (names_of s.timers) c.args.no in
     record {
       built = c.self.invariant.built;
-      limits = c.fire.ensures.acts.limits ∙ c.self.invariant.limits;
-      order = order-kept c.self.inside.board s (state_of c.fire.new.self) (subst (KeepsNames s) (sym c.fire.ensures.acts.state) (quiet-timeout s c.no.inside.0 refl).names) c.self.invariant.order;
-      kept = subst (λ (u : State). Kept (frame_of c.self.inside.board u) u) (sym (fired g c))
-          (fired-kept c.self.inside.board s c.args.no (ap (λ (k : PlainKernel). is_waiting (thread_at k.state c.args.no).stage) c.self.view_is ∙ c.requires.waits) c.self.invariant.kept);
+      limits = c.fire_row.ensures.acts.limits ∙ c.self.invariant.limits;
+      free = subst HasNoMutex (sym c.fire_row.ensures.acts.state) (quiet-free s (alarm_effect b alarm s).state c.self.invariant.free (quiet g c));
+      order = order-kept b s (state_of c.fire_row.new.self) (subst (KeepsNames s) (sym c.fire_row.ensures.acts.state) (quiet g c).names) c.self.invariant.order;
+      kept = subst (λ (u : State). Kept (frame_of b u) u) (sym c.fire_row.ensures.acts.state) (alarm_kept b s alarm refl (may g c) c.self.invariant.kept);
     }
 
 pub returns-clause-state : goal.returns-clause-state
-returns-clause-state g c = fired g c ∙ ap (λ (k : PlainKernel). (settled_effect k.board k.state (timeout_effect c.args.no k.state)).state) c.self.view_is
+returns-clause-state g c = c.fire_row.ensures.acts.state ∙ ap (λ (e : Effect). e.state) (fired g c)
 
 pub returns-clause-lines : goal.returns-clause-lines
-returns-clause-lines g c =
-    let s : State = state_of c.self.inside.state in
-    c.fire.ensures.acts.lines ∙ ap (λ n. c.args.out.now.items ++ (timeout_effect n s).lines) c.no.view_is
-    ∙ sym (ap (λ (e : Effect). c.args.out.now.items ++ e.lines) (fire_settles c.self.inside.board s c.args.no refl))
-    ∙ ap (λ (k : PlainKernel). c.args.out.now.items ++ (settled_effect k.board k.state (timeout_effect c.args.no k.state)).lines) c.self.view_is
+returns-clause-lines g c = c.fire_row.ensures.acts.lines ∙ ap (λ (e : Effect). c.args.out.now.items ++ e.lines) (fired g c)
 
 pub returns-clause-due : goal.returns-clause-due
 returns-clause-due g c =
+    let b : PlainBoard = c.self.inside.board in
     let s : State = state_of c.self.inside.state in
-    subst (λ (u : State). length (due u) ≤ length (due c.args.self.now.state)) (sym (c.fire.ensures.acts.state)) (subst (λ (k : PlainKernel). length (due (timeout_effect c.no.inside.0 s).state) ≤ length (due k.state)) c.self.view_is (due-dropped s (OfThread c.no.inside.0)))
+    let alarm : Alarm = alarm_of (names_of s.timers) c.args.no in
+    subst (λ (u : State). length (due u) ≤ length (due c.args.self.now.state)) (sym c.fire_row.ensures.acts.state) (subst (λ (k : PlainKernel). length (due (alarm_effect b alarm s).state) ≤ length (due k.state)) c.self.view_is (alarm_due b s alarm refl (may g c) c.self.invariant.kept))
+
+pub returns-clause-moment : goal.returns-clause-moment
+returns-clause-moment g c =
+    let s : State = state_of c.self.inside.state in
+    ap (λ (u : State). u.moment) c.fire_row.ensures.acts.state ∙ alarm_moment c.self.inside.board s (alarm_of (names_of s.timers) c.args.no) refl (may g c) c.self.invariant.kept ∙ ap (λ (k : PlainKernel). k.state.moment) c.self.view_is
+
+pub returns-clause-arrivals : goal.returns-clause-arrivals
+returns-clause-arrivals g c =
+    let s : State = state_of c.self.inside.state in
+    ap (λ (u : State). u.arrivals) c.fire_row.ensures.acts.state ∙ alarm_arrivals c.self.inside.board s (alarm_of (names_of s.timers) c.args.no) (may g c) c.self.invariant.kept ∙ ap (λ (k : PlainKernel). k.state.arrivals) c.self.view_is

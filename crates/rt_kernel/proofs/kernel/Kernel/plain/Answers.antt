@@ -3,6 +3,7 @@ use Rattle.rt_plain.specs.declared.stmt.Stmt.{Stmt}
 use Rattle.rt_plain.specs.kernel.State.{State, thread_at, running_on}
 use Rattle.rt_plain.specs.kernel.Effects.{Effect}
 use Rattle.rt_plain.specs.kernel.Kept.{Kept}
+use Rattle.rt_kernel.specs.Mutexes.{HasNoMutex}
 use Rattle.rt_kernel.specs.IsKernel.{frame_of}
 use Rattle.rt_kernel.specs.PlainKernel.{PlainKernel, DoesNext}
 use Rattle.rt_kernel.specs.View.{state_of}
@@ -12,7 +13,7 @@ use Rattle.rt_kernel.proofs.NameLemmas.{order-kept}
 use Rattle.rt_kernel.proofs.Quiet.{KeepsNames}
 use Rattle.rt_kernel.proofs.BuiltLemmas.{script-short}
 use Rattle.rt_kernel.proofs.KeptLemmas.{next-kept}
-use Rattle.rt_kernel.proofs.StatementLemmas.{plain_is, plain-names, first_core}
+use Rattle.rt_kernel.proofs.StatementLemmas.{plain_is, plain-names, plain-free}
 use Rattle.rt_kernel.proofs.kernel.Kernel.plain.Given.{Over}
 use Rattle.rt_kernel.proofs.kernel.Kernel.plain.Goals as goal
 
@@ -26,7 +27,7 @@ plain-requires-clause-short g c = subst (λ (script : List Stmt). length script 
 comes_next : (g : Over) (c : goal.After-plain g) → DoesNext (record { board = c.self.inside.board; state = state_of c.self.inside.state }) c.in-Some.t c.args.core c.args.stmt.now
 comes_next g c =
     let found : DoesNext (record { board = c.self.inside.board; state = state_of c.self.inside.state }) c.requires.next.0 c.args.core c.args.stmt.now = subst (λ (k : PlainKernel). DoesNext k c.requires.next.0 c.args.core c.args.stmt.now) (sym c.self.view_is) c.requires.next.1 in
-    subst (λ u. DoesNext (record { board = c.self.inside.board; state = state_of c.self.inside.state }) u c.args.core c.args.stmt.now) (some-same c.requires.next.0 c.in-Some.t c.self.inside.state.running (first_core c.self.inside.state.running c.args.core c.requires.next.0 found.runs).1 c.in-Some.is) found
+    subst (λ u. DoesNext (record { board = c.self.inside.board; state = state_of c.self.inside.state }) u c.args.core c.args.stmt.now) (some-same c.requires.next.0 c.in-Some.t (running_on (state_of c.self.inside.state) c.args.core) found.runs (sym c.in-Some.ensures)) found
 
 script : (g : Over) (c : goal.After-plain g) → c.script_of-script.result.now ≡ script_of c.self.inside.board (thread_at (state_of c.self.inside.state) c.in-Some.t).name
 script g c = c.script_of-script.ensures
@@ -34,7 +35,7 @@ script g c = c.script_of-script.ensures
 effect : (g : Over) (c : goal.After-plain g) → statement_effect c.self.inside.board c.in-Some.t c.args.core (state_of c.self.inside.state) ≡ next_plain c.script_of-script.result.now c.in-Some.t c.args.stmt.now (state_of c.self.inside.state)
 effect g c =
     let next = comes_next g c in
-    plain_is c.self.inside.board (state_of c.self.inside.state) c.in-Some.t c.args.core c.args.stmt.now refl c.self.invariant.built.shell c.self.invariant.built.soft c.requires.plain next.again next.next
+    plain_is c.self.inside.board (state_of c.self.inside.state) c.in-Some.t c.args.core c.args.stmt.now c.self.invariant.free c.know_state.ensures.nobody c.self.invariant.built.shell c.self.invariant.built.soft c.requires.plain next.again next.next
     ∙ ap (λ (x : List Stmt). next_plain x c.in-Some.t c.args.stmt.now (state_of c.self.inside.state)) (sym (script g c))
 
 state_is : (g : Over) (c : goal.After-plain g) → state_of c.plain.new.self ≡ (statement_effect c.self.inside.board c.in-Some.t c.args.core (state_of c.self.inside.state)).state
@@ -44,7 +45,8 @@ pub invariant_of-self : goal.invariant_of-self
 invariant_of-self g c = record {
   built = c.self.invariant.built;
   limits = c.plain.ensures.acts.limits ∙ c.self.invariant.limits;
-  order = order-kept c.self.inside.board (state_of c.self.inside.state) (state_of c.plain.new.self) (subst (KeepsNames (state_of c.self.inside.state)) (sym c.plain.ensures.acts.state) (plain-names (state_of c.self.inside.state) c.script_of-script.result.now c.in-Some.t c.args.stmt.now refl)) c.self.invariant.order;
+  free = subst HasNoMutex (sym c.plain.ensures.acts.state) (plain-free (state_of c.self.inside.state) c.script_of-script.result.now c.in-Some.t c.args.stmt.now c.self.invariant.free c.know_state.ensures.nobody);
+  order = order-kept c.self.inside.board (state_of c.self.inside.state) (state_of c.plain.new.self) (subst (KeepsNames (state_of c.self.inside.state)) (sym c.plain.ensures.acts.state) (plain-names (state_of c.self.inside.state) c.script_of-script.result.now c.in-Some.t c.args.stmt.now c.self.invariant.free c.know_state.ensures.nobody)) c.self.invariant.order;
   kept = subst (λ (u : State). Kept (frame_of c.self.inside.board u) u) (sym (state_is g c)) (next-kept c.self.inside.board (state_of c.self.inside.state) c.in-Some.t c.args.core c.self.invariant.built.proper (comes_next g c).runs c.self.invariant.kept);
 }
 

@@ -2,7 +2,7 @@ use Rattle.std.proofs.Common.{◌≡◌, ◌<◌, arith, refl, ap, ◌∙◌, le
 use Rattle.std.proofs.lemmas.Grind.{common_steps}
 use Rattle.rt_base.specs.declared.codes.Code.{Code}
 use Rattle.rt_plain.proofs.kernel.TallyLemmas.{all-weaker}
-use Rattle.kernel_tables.specs.Tabled.{Tabled}
+use Rattle.mutex_tables.specs.MutexTabled.{MutexTabled}
 use Rattle.rt_kernel.specs.View.{state_of}
 use Rattle.rt_kernel.proofs.DoesLemmas.{does_by}
 use Rattle.rt_kernel.proofs.SemCallLemmas.{sem-deletes}
@@ -12,11 +12,11 @@ use Rattle.rt_kernel.proofs.state.State.sem_delete.Goals as goal
 pub follow_waited-requires-clause-there : goal.follow_waited-requires-clause-there
 follow_waited-requires-clause-there c =
     let delete = c.if-not-delete_sem.ensures in
-    let same : length c.delete_sem.new.self.threads ≡ length c.args.self.now.tables.threads = ap (λ (k : Tabled). length k.threads) delete.state ∙ woken-length Code.Error c.delete_sem.new.woken c.args.self.now.tables.threads in
-    all-weaker (λ t. t < length c.args.self.now.tables.threads) (λ t. t < length c.delete_sem.new.self.threads) c.delete_sem.new.woken (λ t there. omega (arith, there, same)) (sem-deletes (state_of c.args.self.now) c.args.name.now c.delete_sem.new.woken refl delete.answer delete.woken).1
+    let same : length c.delete_sem.new.self.threads ≡ length c.args.self.now.tables.threads = ap (λ (k : MutexTabled). length k.threads) delete.state ∙ woken-length Code.Error c.delete_sem.new.woken c.args.self.now.tables.threads in
+    all-weaker (λ t. t < length c.args.self.now.tables.threads) (λ t. t < length c.delete_sem.new.self.threads) c.delete_sem.new.woken (λ t there. omega (arith, there, same)) (sem-deletes (state_of c.args.self.now) c.args.name.now c.delete_sem.new.woken delete.answer delete.woken).1
 
 pub returns : goal.returns
 returns c =
     let delete = c.if-not-delete_sem.ensures in
-    let same : length c.delete_sem.new.self.threads ≡ length c.args.self.now.tables.threads = ap (λ (k : Tabled). length k.threads) delete.state ∙ woken-length Code.Error c.delete_sem.new.woken c.args.self.now.tables.threads in
-    does_by (sem-deletes (state_of c.args.self.now) c.args.name.now c.delete_sem.new.woken refl delete.answer delete.woken).0 (grind (arith, common_steps))
+    let same : length c.delete_sem.new.self.threads ≡ length c.args.self.now.tables.threads = ap (λ (k : MutexTabled). length k.threads) delete.state ∙ woken-length Code.Error c.delete_sem.new.woken c.args.self.now.tables.threads in
+    does_by (sem-deletes (state_of c.args.self.now) c.args.name.now c.delete_sem.new.woken delete.answer delete.woken).0 (grind (arith, common_steps))

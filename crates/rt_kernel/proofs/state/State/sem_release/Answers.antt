@@ -1,6 +1,6 @@
 use Rattle.std.proofs.Common.{Some, ap, ◌∙◌, subst, arith}
 use Rattle.std.proofs.lemmas.Grind.{common_steps}
-use Rattle.kernel_tables.specs.Tabled.{Releases}
+use Rattle.mutex_tables.specs.Woken.{Releases}
 use Rattle.rt_kernel.proofs.DoesLemmas.{does_by}
 use Rattle.rt_kernel.proofs.SemCallLemmas.{release-full, release-raised, release-woke}
 use Rattle.rt_kernel.proofs.state.State.sem_release.Goals as goal

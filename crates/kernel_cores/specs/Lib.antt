@@ -1,0 +1,2 @@
+pub mod PlainCores
+pub mod Nests

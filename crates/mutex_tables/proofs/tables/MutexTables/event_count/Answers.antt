@@ -1,0 +1,9 @@
+use Rattle.std.proofs.Common.{◌∙◌, ◌≤◌, ap, subst, length}
+use Rattle.mutex_tables.specs.MutexTabled.{MutexTabled}
+use Rattle.mutex_tables.proofs.tables.MutexTables.event_count.Goals as goal
+
+pub returns-clause-count : goal.returns-clause-count
+returns-clause-count c = c.event_count.ensures.count ∙ ap (λ (v : MutexTabled). length v.events) c.self.view_is
+
+pub returns-clause-few : goal.returns-clause-few
+returns-clause-few c = subst (λ (v : MutexTabled). c.event_count.result ≤ v.event_limit) c.self.view_is c.event_count.ensures.few

@@ -1,0 +1,18 @@
+use Rattle.std.proofs.Common.{refl, ap}
+use Rattle.kernel_tables.specs.Threads.{row_at}
+use Rattle.kernel_tables.specs.Tabled.{Tabled}
+use Rattle.mutex_tables.proofs.SeenLemmas.{inside-there, keeps-row, view-row}
+use Rattle.mutex_tables.proofs.tables.MutexTables.set_code.Goals as goal
+
+pub set_code-requires : goal.set_code-requires
+set_code-requires c = inside-there c.self.inside c.args.self.now c.args.t c.self.view_is c.requires
+
+pub invariant_of-self : goal.invariant_of-self
+invariant_of-self c =
+    let k = c.self.inside in
+    keeps-row k.tables c.set_code.new.self k.bases.items k.names.mutex k.graph c.args.t (record (row_at k.tables.threads c.args.t) { code = c.args.code }) c.self.invariant
+    (inside-there k c.args.self.now c.args.t c.self.view_is c.requires) (ap (λ (x : Tabled). x.threads) c.set_code.ensures) (ap (λ (x : Tabled). x.levels) c.set_code.ensures)
+    (record { base = refl; closed = refl; wait = refl; known = refl })
+
+pub returns : goal.returns
+returns c = view-row c.self.inside c.set_code.new.self c.args.self.now c.args.t (λ row. record row { code = c.args.code }) (λ ready. ready) c.self.view_is c.self.invariant c.set_code.ensures (λ row base. refl)

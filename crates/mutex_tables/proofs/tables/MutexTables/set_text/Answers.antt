@@ -1,0 +1,19 @@
+use Rattle.std.proofs.Common.{refl, ap, []}
+use Rattle.std.specs.Prelude.{unwrap_or}
+use Rattle.kernel_tables.specs.Threads.{row_at}
+use Rattle.kernel_tables.specs.Tabled.{Tabled}
+use Rattle.mutex_tables.proofs.SeenLemmas.{inside-there, keeps-row, view-row}
+use Rattle.mutex_tables.proofs.tables.MutexTables.set_text.Goals as goal
+
+pub set_text-requires : goal.set_text-requires
+set_text-requires c = inside-there c.self.inside c.args.self.now c.args.t c.self.view_is c.requires
+
+pub invariant_of-self : goal.invariant_of-self
+invariant_of-self c =
+    let k = c.self.inside in
+    keeps-row k.tables c.set_text.new.self k.bases.items k.names.mutex k.graph c.args.t (record (row_at k.tables.threads c.args.t) { text = unwrap_or c.args.text [] }) c.self.invariant
+    (inside-there k c.args.self.now c.args.t c.self.view_is c.requires) (ap (λ (x : Tabled). x.threads) c.set_text.ensures) (ap (λ (x : Tabled). x.levels) c.set_text.ensures)
+    (record { base = refl; closed = refl; wait = refl; known = refl })
+
+pub returns : goal.returns
+returns c = view-row c.self.inside c.set_text.new.self c.args.self.now c.args.t (λ row. record row { text = unwrap_or c.args.text [] }) (λ ready. ready) c.self.view_is c.self.invariant c.set_text.ensures (λ row base. refl)

@@ -1,0 +1,14 @@
+use Rattle.std.proofs.Common.{◌<◌, sym, ap, ◌∙◌, subst, length, List}
+use Rattle.rt_plain.specs.kernel.State.{Thread}
+use Rattle.kernel_tables.specs.Threads.{row_at, vars_of}
+use Rattle.mutex_tables.proofs.SeenLemmas.{inside-there, inside-row}
+use Rattle.mutex_tables.proofs.tables.MutexTables.vars.Goals as goal
+
+pub vars-requires : goal.vars-requires
+vars-requires c = subst (λ (rows : List Thread). c.args.t < length rows) (sym c.threads.ensures) (inside-there c.self.inside c.args.self.now c.args.t c.self.view_is c.requires)
+
+pub returns : goal.returns
+returns c =
+    c.vars.ensures
+    ∙ ap (λ (rows : List Thread). vars_of (row_at rows c.args.t)) c.threads.ensures
+    ∙ sym (ap (λ (row : Thread). vars_of row) (inside-row c.self.inside c.args.self.now c.args.t c.self.view_is c.self.invariant c.requires))

@@ -1,0 +1,10 @@
+pub mod MutexTabled
+pub mod Kept
+pub mod Known
+pub mod Moved
+pub mod Opened
+pub mod Created
+pub mod Mutexes
+pub mod Woken
+pub mod ObjectRows
+pub mod Passed

@@ -1,0 +1,4 @@
+pub mod ServedLemmas
+pub mod CallSpares
+pub mod StatementSpares
+pub mod RunSpares
